@@ -1,0 +1,5 @@
+-- Laws of the mathematics, a file a notion.
+pub mod WordLaws
+pub mod RefusalLaws
+pub mod FoldLaws
+pub mod ExamplesHold

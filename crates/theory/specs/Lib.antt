@@ -1,0 +1,10 @@
+pub mod Words
+pub mod Letters
+pub mod Refusals
+pub mod Tables
+pub mod Canonical
+pub mod Graphs
+pub mod Folds
+pub mod Basis
+pub mod Files
+pub mod Examples
