@@ -1,5 +1,6 @@
 -- Laws of the mathematics, a file a notion.
 pub mod WordLaws
 pub mod RefusalLaws
+pub mod ReadLaws
 pub mod FoldLaws
 pub mod ExamplesHold

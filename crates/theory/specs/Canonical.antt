@@ -69,15 +69,16 @@ unfoldable pub isFaulty : ℕ → List ℕ → Cells → ℕ → ℕ → Bool
 isFaulty N ys c v i =
     (eqb i 0 && breaksRow ys c v) || breaksCell N c v (getD ys i 0) (greatestMet (earlier c ys v i))
 
+-- what was found below k, or k itself where it passes
+abbrev pub orThis : ℕ → Option ℕ → Bool → Option ℕ
+orThis k (some i) b = some i
+orThis k none true = some k
+orThis k none false = none
+
 -- the least number below k that passes the test
 unfoldable pub least : (ℕ → Bool) → ℕ → Option ℕ
 least f zero = none
-least f (suc k) = leastOr (least f k) (f k)
-  where
-    leastOr : Option ℕ → Bool → Option ℕ
-    leastOr (some i) b = some i
-    leastOr none true = some k
-    leastOr none false = none
+least f (suc k) = orThis k (least f k) (f k)
 
 -- a row and a place in it
 pub record Place : Type 0 where

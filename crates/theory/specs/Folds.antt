@@ -103,14 +103,15 @@ unfoldable pub firstFrom : ℕ → (Edge → Bool) → List Edge → Option ℕ
 firstFrom k f [] = none
 firstFrom k f (e ∷ es) = cond (f e) (some k) (firstFrom (suc k) f es)
 
+-- place k with a place found after it
+abbrev pub withSecond : ℕ → Option ℕ → Option Place
+withSecond k none = none
+withSecond k (some j) = some (record { row = k; index = j })
+
 -- the first two places from k on at which the test holds
 unfoldable pub firstTwo : ℕ → (Edge → Bool) → List Edge → Option Place
 firstTwo k f [] = none
-firstTwo k f (e ∷ es) = cond (f e) (second (firstFrom (suc k) f es)) (firstTwo (suc k) f es)
-  where
-    second : Option ℕ → Option Place
-    second none = none
-    second (some j) = some (record { row = k; index = j })
+firstTwo k f (e ∷ es) = cond (f e) (withSecond k (firstFrom (suc k) f es)) (firstTwo (suc k) f es)
 
 abbrev pub isPair : Option Place → Bool
 isPair none = false
