@@ -2,5 +2,7 @@
 pub mod WordLaws
 pub mod RefusalLaws
 pub mod ReadLaws
+pub mod TableLaws
+pub mod HomeLaws
 pub mod FoldLaws
 pub mod ExamplesHold

@@ -36,6 +36,7 @@ use Rattle.theory.specs.Canonical.{Canonical}
 use Rattle.theory.proofs.WordLaws.{
   byTest,
   letters,
+  reduced-nil,
   reduced-idem,
   reduced-append,
   append-cong,
@@ -100,6 +101,24 @@ module _ {E : Steps} (I : Inverse E) where
   unfolding reducedBy
   reads-reduced v [] x r = r
   reads-reduced v (y ∷ w) x r = reads-put v y (reduced w) x (r .0, r .1, reads-reduced (r .0) w x (r .2))
+
+  -- two words end at one point exactly if the first followed by the inverse of the second is a loop, after reduction
+  pub ends-loop : (b : ℕ) (u v : List ℕ) (x z : ℕ) → Reads E b u x → Reads E b v z → x ≡ z → Reads E b (reduced (u ++ inverseOf v)) b
+  ends-loop b u v x z r s e =
+      reads-reduced b (u ++ inverseOf v) b
+      (reads-append E b u x (inverseOf v) b r (subst (λ p. Reads E p (inverseOf v) b) (sym e) (reads-back b v z s)))
+
+  pub loop-ends : (b : ℕ) (u v : List ℕ) (x z : ℕ) → Reads E b u x → Reads E b v z → Reads E b (reduced (u ++ inverseOf v)) b → x ≡ z
+  loop-ends b u v x z r s l =
+      reads-one b (reduced u) x z (reads-reduced b u x r)
+      (subst (λ w. Reads E b w z) cancelled (reads-reduced b (reduced (u ++ inverseOf v) ++ v) z (reads-append E b (reduced (u ++ inverseOf v)) b v z l s)))
+    where
+      cancelled : reduced (u ++ inverseOf v) ++ v ≈ u
+      cancelled =
+          append-cong letters (reduced (u ++ inverseOf v)) (u ++ inverseOf v) v v (reduced-idem letters (u ++ inverseOf v)) refl
+          ∙ ap reduced (append-assoc u (inverseOf v) v)
+          ∙ append-cong letters u u (inverseOf v ++ v) [] refl (inverse-left letters v ∙ sym (reduced-nil letters))
+          ∙ ap reduced (append-nil u)
 
 -- a canonical table is an inverse deterministic graph
 pub canonical-inverse : {N : ℕ} {ys : List ℕ} {c : Cells} → Canonical N ys c → Inverse (Leads c)

@@ -41,7 +41,7 @@ byTest true f g = f refl
 byTest false f g = g refl
 
 module _ {A : Type 0} {inv : A → A} {cancels : A → A → Bool} (I : Inverses inv cancels) where
-  reduced-nil : reducedBy cancels [] ≡ []
+  pub reduced-nil : reducedBy cancels [] ≡ []
   unfolding reducedBy
   reduced-nil = refl
 

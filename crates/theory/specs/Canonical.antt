@@ -2,10 +2,12 @@
 --   earlier c ys v i   == the cells that come before place i of row v: rows in order, letters in the order ys
 --   greatestMet cells  == the greatest point met in some cells; the base counts as met
 --   Canonical N ys c  <-> the five rules, for N points and letters scanned in the order ys
+--   Broken N ys c v i <-> the cell at place i of row v is a cell of a broken rule
 --   faultyCell N ys c  == the lowest cell of any broken rule, in scan order, as its position in the table
 -- A broken rule of a whole row is placed at the row's first cell. The letters to scan are an argument: `usual n` for document 01.
 -- `proofs/CanonicalLaws` joins the rules and the faulty cell. Assumes nothing.
 use mathlib.Core.Path.{_≡_}
+use mathlib.Core.Logic.{_⊎_}
 use mathlib.Core.Bool.{Bool, true, false, cond, not, _&&_, _||_}
 use mathlib.Core.Option.{Option, none, some}
 use mathlib.Core.List.{List, [], _∷_, _++_, map}
@@ -43,6 +45,24 @@ pub record Canonical (N : ℕ) (ys : List ℕ) (c : Cells) : Type 0 where
   -- each point v ≥ 1 has at least two cells that are not absent
   pub two : (v : ℕ) → 1 ≤ v → v < N
       → (y : ℕ) × (z : ℕ) × (y ≡ z → ⊥) × (c v y ≡ absent → ⊥) × (c v z ≡ absent → ⊥)
+
+-- the cell at place i of row v breaks one of the first three rules
+abbrev pub BrokenCell : ℕ → List ℕ → Cells → ℕ → ℕ → Type 0
+BrokenCell N ys c v i =
+    (x : ℕ)
+    × Leads c v (getD ys i 0) x
+    × ((N ≤ x) ⊎ ((Leads c x (inv (getD ys i 0)) v → ⊥) ⊎ (suc (greatestMet (earlier c ys v i)) < x)))
+
+-- row v breaks one of the last two rules
+abbrev pub BrokenRow : Cells → ℕ → Type 0
+BrokenRow c v =
+    (1 ≤ v)
+    × (((u y : ℕ) → u < v → Leads c u y v → ⊥)
+    ⊎ ((y z : ℕ) → (y ≡ z → ⊥) → (c v y ≡ absent → ⊥) → (c v z ≡ absent → ⊥) → ⊥))
+
+-- place i of row v is a cell of a broken rule: the last two are placed at the first cell of the row
+abbrev pub Broken : ℕ → List ℕ → Cells → ℕ → ℕ → Type 0
+Broken N ys c v i = BrokenCell N ys c v i ⊎ ((i ≡ 0) × BrokenRow c v)
 
 -- the number of cells that are not absent
 unfoldable pub present : List ℕ → ℕ
