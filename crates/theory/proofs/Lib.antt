@@ -1,6 +1,7 @@
 -- Laws of the mathematics, a file a notion.
 pub mod WordLaws
 pub mod RefusalLaws
+pub mod LetterLaws
 pub mod ReadLaws
 pub mod TableLaws
 pub mod HomeLaws
