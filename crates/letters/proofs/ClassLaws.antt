@@ -35,9 +35,9 @@ rangeOf : (b : ℕ) → Range b
 rangeOf b =
     by-cases (decLe b 64) (λ h. neither (outside 97 122 b (inl (omega arith))) (outside 65 90 b (inl (omega arith))))
     (λ h. by-cases (decLe b 90) (λ i. upper (omega arith) i)
-      (λ i. by-cases (decLe b 96) (λ j. neither (outside 97 122 b (inl (omega arith))) (outside 65 90 b (inr (omega arith))))
-        (λ j. by-cases (decLe b 122) (λ k. lower (omega arith) k)
-          (λ k. neither (outside 97 122 b (inr (omega arith))) (outside 65 90 b (inr (omega arith)))))))
+    (λ i. by-cases (decLe b 96) (λ j. neither (outside 97 122 b (inl (omega arith))) (outside 65 90 b (inr (omega arith))))
+    (λ j. by-cases (decLe b 122) (λ k. lower (omega arith) k)
+    (λ k. neither (outside 97 122 b (inr (omega arith))) (outside 65 90 b (inr (omega arith)))))))
 
 pub class-lower : (b : ℕ) → 97 ≤ b → b ≤ 122 → classOf b ≡ Lower (b - 96)
 unfolding classOf
@@ -57,7 +57,7 @@ class-end b e = ap classOf e ∙ (unfold classOf in refl)
 pub class-other : (b : ℕ) → (b ≡ 10 → ⊥) → (b < 65) ⊎ (((90 < b) × (b < 97)) ⊎ (122 < b)) → classOf b ≡ Other
 class-other b e h =
     class-neither b (⊎-elim (λ i. outside 97 122 b (inl (omega arith))) (⊎-elim (λ i. outside 97 122 b (inl (omega arith))) (λ i. outside 97 122 b (inr i))) h)
-      (⊎-elim (λ i. outside 65 90 b (inl i)) (⊎-elim (λ i. outside 65 90 b (inr (i .0))) (λ i. outside 65 90 b (inr (omega arith)))) h)
+    (⊎-elim (λ i. outside 65 90 b (inl i)) (⊎-elim (λ i. outside 65 90 b (inr (i .0))) (λ i. outside 65 90 b (inr (omega arith)))) h)
     ∙ ap (λ t. cond t LineEnd Other) (ne-eqb b 10 e)
 
 -- the letter number of a byte of a class
@@ -100,17 +100,17 @@ says-lower n lines b s h k =
     record {
       letter = omega arith;
       counted = omega arith;
-      draws = letter-draws n lines b (b - 96) (omega arith) (λ i. omega arith) (λ i. omega arith)
+      draws = letter-draws n lines b (b - 96) (omega arith) (λ i. omega arith) (λ i. omega arith);
     }
 
 says-upper : (n : ℕ) (lines : Bool) (b : ℕ) → b < 256 → 65 ≤ b → b ≤ 90 → Says n lines b (Upper (b - 64))
 says-upper n lines b s h k =
     let is : letterOf b ≡ 2 * (b - 65) + 1 =
-      letter-range b s ∙ (rw (outside 97 122 b (inl (omega arith)), le-leb 65 b h, le-leb b 90 k)) in
+    letter-range b s ∙ (rw (outside 97 122 b (inl (omega arith)), le-leb 65 b h, le-leb b 90 k)) in
     record {
       letter = omega arith;
       counted = omega arith;
-      draws = letter-draws n lines b (b - 64) (omega arith) (λ i. omega arith) (λ i. omega arith)
+      draws = letter-draws n lines b (b - 64) (omega arith) (λ i. omega arith) (λ i. omega arith);
     }
 
 says-neither : (n : ℕ) (lines : Bool) (b : ℕ) → b < 256 → (leb 97 b && leb b 122) ≡ false → (leb 65 b && leb b 90) ≡ false → Says n lines b (cond (eqb b 10) LineEnd Other)
@@ -121,11 +121,14 @@ says-neither n lines b s h k =
   where
     is : letterOf b ≡ 52
     is = letter-range b s ∙ (rw (h, k))
+
     far : ltb (letterOf b) 52 ≡ false
     far = le-ltb (letterOf b) 52 (omega (arith, is))
+
     ends : (l : Bool) → _≡_ {A = ℕ} (cond (l && true) 0 3) (cond l 0 3)
     ends true = refl
     ends false = refl
+
     never : (l : Bool) → _≡_ {A = ℕ} (cond (l && false) 0 3) 3
     never true = refl
     never false = refl

@@ -105,9 +105,5 @@ pub fn byte_of(y: usize) -> u8
 pub fn inverse(y: u32) -> u32
     ensures inverse { λ r. ⌜ r ≡ inv y ⌝ }
 {
-    if y % 2 == 0 {
-        y + 1
-    } else {
-        y - 1
-    }
+    if y % 2 == 0 { y + 1 } else { y - 1 }
 }

@@ -2,8 +2,11 @@
 pub mod WordLaws
 pub mod RefusalLaws
 pub mod LetterLaws
+pub mod TextLaws
 pub mod ReadLaws
 pub mod TableLaws
 pub mod HomeLaws
+pub mod OneTable
+pub mod IndexLaws
 pub mod FoldLaws
 pub mod ExamplesHold
