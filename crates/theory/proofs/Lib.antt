@@ -5,6 +5,9 @@ pub mod LetterLaws
 pub mod TextLaws
 pub mod ReadLaws
 pub mod TableLaws
+pub mod PlaceLaws
+pub mod RowLaws
+pub mod CanonicalLaws
 pub mod HomeLaws
 pub mod OneTable
 pub mod IndexLaws
