@@ -1,0 +1,2 @@
+-- The turns of loops and the stages of scans on plain values.
+pub mod ScanTurn

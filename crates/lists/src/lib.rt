@@ -4,14 +4,14 @@ ghost use Prim.Native.Nat.{_+_, _≤_};
 ghost use lib.ListN.{length};
 ghost use Rattle.theory.specs.Letters.{lettersIn};
 ghost use Rattle.theory.specs.Refusals.{byteRefusal, isUnended, bytesRefusal, textRefusal};
-ghost use Rattle.lists.specs.Scans.{scanOf, beyondDraws, lastOf};
+ghost use Rattle.lists.specs.Scans.{scannedAs, beyondDraws, lastOf};
 ghost use Rattle.lists.specs.Counts.{CountsOf, nextStart};
 
 use letters::Class;
 use refusals::Refusal;
 
 // What scanning a text says.
-pub enum Scan {
+pub enum Scanned {
     Fine,
     Refused(Refusal),
 }
@@ -52,18 +52,18 @@ fn draws(n: u64, b: u8, lines: bool) -> u64
 }
 
 // The first byte that draws a refusal.
-fn scan_bytes(n: u64, text: &[u8], lines: bool) -> Scan
-    ensures first { λ r. ⌜ r ≡ scanOf (bytesRefusal n lines 0 (now (text .entry))) ⌝ }
+fn scan_bytes(n: u64, text: &[u8], lines: bool) -> Scanned
+    ensures first { λ r. ⌜ r ≡ scannedAs (bytesRefusal n lines 0 (now (text .entry))) ⌝ }
 {
     let mut i: usize = 0;
     while i < text.len() {
         let k = draws(n, text[i], lines);
         if k != 0 {
-            return Scan::Refused(refusals::refuse(k, i as u64));
+            return Scanned::Refused(refusals::refuse(k, i as u64));
         }
         i += 1;
     }
-    Scan::Fine
+    Scanned::Fine
 }
 
 // The text has bytes and does not end in a line end.
@@ -79,32 +79,32 @@ fn unended(text: &[u8]) -> bool
 }
 
 // What is left to refuse once all bytes are fine: a list that is not ended.
-fn scan_end(text: &[u8], lines: bool) -> Scan
-    ensures last { λ r. ⌜ r ≡ scanOf (lastOf lines (now (text .entry))) ⌝ }
+fn scan_end(text: &[u8], lines: bool) -> Scanned
+    ensures last { λ r. ⌜ r ≡ scannedAs (lastOf lines (now (text .entry))) ⌝ }
 {
     if lines {
         if unended(text) {
-            return Scan::Refused(refusals::refuse(5, text.len() as u64));
+            return Scanned::Refused(refusals::refuse(5, text.len() as u64));
         }
     }
-    Scan::Fine
+    Scanned::Fine
 }
 
 // The first refusal of a list (line ends allowed) or a query (none) over n generators.
-pub fn scan(n: u64, text: &[u8], lines: bool) -> Scan
-    ensures first { λ r. ⌜ r ≡ scanOf (textRefusal n lines (now (text .entry))) ⌝ }
+pub fn scan(n: u64, text: &[u8], lines: bool) -> Scanned
+    ensures first { λ r. ⌜ r ≡ scannedAs (textRefusal n lines (now (text .entry))) ⌝ }
 {
     if n < 1 {
-        return Scan::Refused(refusals::refuse(1, 0));
+        return Scanned::Refused(refusals::refuse(1, 0));
     }
     if 26 < n {
-        return Scan::Refused(refusals::refuse(1, 0));
+        return Scanned::Refused(refusals::refuse(1, 0));
     }
     if 1048576 < text.len() {
-        return Scan::Refused(refusals::refuse(2, 0));
+        return Scanned::Refused(refusals::refuse(2, 0));
     }
     match scan_bytes(n, text, lines) {
-        Scan::Refused(r) => Scan::Refused(r),
-        Scan::Fine => scan_end(text, lines),
+        Scanned::Refused(r) => Scanned::Refused(r),
+        Scanned::Fine => scan_end(text, lines),
     }
 }
