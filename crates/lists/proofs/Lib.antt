@@ -1,2 +1,4 @@
--- The turns of loops and the stages of scans on plain values.
+-- The turns of loops and the stages of scans on plain values, and that the public contracts fix their outcome.
 pub mod ScanTurn
+pub mod CountTurn
+pub mod Determined

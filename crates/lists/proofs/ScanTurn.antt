@@ -46,8 +46,8 @@ module _ {n : ℕ} {lines : Bool} {text : List ℕ} where
       record {
         inside = omega arith;
         passed =
-          rw (add-one i)
-          (h .passed ∙ ap (bytesRefusal n lines i) (drop-cons text i 0 l) ∙ bytes-pass n lines i (getD text i 0) (drop (suc i) text) e)
+            rw (add-one i)
+            (h .passed ∙ ap (bytesRefusal n lines i) (drop-cons text i 0 l) ∙ bytes-pass n lines i (getD text i 0) (drop (suc i) text) e);
       }
 
   -- a byte that draws is the answer

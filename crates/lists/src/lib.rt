@@ -6,7 +6,7 @@ ghost use Rattle.theory.specs.Letters.{lettersIn};
 ghost use Rattle.theory.specs.Refusals.{byteRefusal, isUnended, bytesRefusal, textRefusal};
 ghost use Rattle.lists.specs.Scans.{scannedAs, beyondDraws, lastOf};
 ghost use Rattle.lists.specs.Counts.{CountsOf, nextStart};
-
+ghost use Rattle.lists.specs.Shorter.{isGood, HandedBack};
 use letters::Class;
 use refusals::Refusal;
 
@@ -26,11 +26,7 @@ pub struct Counts {
 fn beyond(g: u64, n: u64) -> u64
     ensures draws { λ r. ⌜ r ≡ beyondDraws g n ⌝ }
 {
-    if g <= n {
-        0
-    } else {
-        4
-    }
+    if g <= n { 0 } else { 4 }
 }
 
 // The number of the refusal that a byte draws, or 0.
@@ -40,13 +36,7 @@ fn draws(n: u64, b: u8, lines: bool) -> u64
     match letters::class_of(b) {
         Class::Lower(g) => beyond(g as u64, n),
         Class::Upper(g) => beyond(g as u64, n),
-        Class::LineEnd => {
-            if lines {
-                0
-            } else {
-                3
-            }
-        }
+        Class::LineEnd => { if lines { 0 } else { 3 } }
         Class::Other => 3,
     }
 }
@@ -107,4 +97,82 @@ pub fn scan(n: u64, text: &[u8], lines: bool) -> Scanned
         Scanned::Refused(r) => Scanned::Refused(r),
         Scanned::Fine => scan_end(text, lines),
     }
+}
+
+// L: the letters of a text as written.
+pub fn letters_in(text: &[u8]) -> usize
+    ensures letters { λ r. ⌜ r ≡ lettersIn (now (text .entry)) ⌝ }
+{
+    let mut found: usize = 0;
+    let mut i: usize = 0;
+    while i < text.len() {
+        let b = text[i];
+        i += 1;
+        if b != 10 {
+            found += 1;
+        }
+    }
+    found
+}
+
+// The letters and the words of a list. What is no letter is a line end, and each ends a word.
+pub fn count(text: &[u8]) -> Counts
+    ensures counts { λ r. ⌜ CountsOf (now (text .entry)) r ⌝ }
+{
+    let letters = letters_in(text);
+    let ends = text.len() - letters;
+    if unended(text) {
+        Counts {
+            letters,
+            words: ends + 1,
+        }
+    } else {
+        Counts {
+            letters,
+            words: ends,
+        }
+    }
+}
+
+// The walk from word to word: where the word after the one that starts at `at` starts.
+pub fn next_start(text: &[u8], at: usize) -> usize
+    requires { ⌜ at ≤ length (now text) ⌝ }
+    ensures next { λ r. ⌜ r ≡ nextStart (now (text .entry)) at ⌝ }
+{
+    let end = at + words::word_length(&text[at..]);
+    if end < text.len() {
+        end + 1
+    } else {
+        text.len()
+    }
+}
+
+// No refusal meets the list.
+fn is_good(n: u64, list: &[u8]) -> bool
+    ensures good { λ r. ⌜ r ≡ isGood n (now (list .entry)) ⌝ }
+{
+    match scan(n, list, true) {
+        Scanned::Fine => true,
+        Scanned::Refused(_) => false,
+    }
+}
+
+// Of two lists the one with fewer letters, as the caller's own slice: the first on a tie, a good one rather
+// than a bad one, and the empty start of the first where both are bad or n is.
+pub fn shorter<'a>(n: u64, first: &'a [u8], second: &'a [u8]) -> &'a [u8]
+    ensures shorter { λ r. ⌜ HandedBack n (first .entry) (second .entry) r ⌝ }
+{
+    if is_good(n, first) {
+        if is_good(n, second) {
+            if letters_in(first) <= letters_in(second) {
+                return first;
+            }
+            return second;
+        }
+        return first;
+    }
+    if is_good(n, second) {
+        return second;
+    }
+    &first[..0]
 }

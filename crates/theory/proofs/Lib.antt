@@ -11,5 +11,10 @@ pub mod CanonicalLaws
 pub mod HomeLaws
 pub mod OneTable
 pub mod IndexLaws
+pub mod DistinctLaws
+pub mod PathLaws
+pub mod EdgeLaws
+pub mod BasisLaws
+pub mod ExpressionLaws
 pub mod FoldLaws
 pub mod ExamplesHold

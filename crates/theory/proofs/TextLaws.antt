@@ -7,15 +7,16 @@ use mathlib.Core.Path.{_≡_, refl, sym, _∙_, ap, subst}
 use mathlib.Core.Logic.{by-cases}
 use mathlib.Core.Bool.{cond}
 use mathlib.Core.List.{List, [], _∷_, _++_, map}
-use Prim.Native.Nat.{ℕ, zero, suc, _+_, _<_, _≤_}
+use Prim.Native.Nat.{ℕ, zero, suc, _+_, _-_, _<_, _≤_}
 use native.Mathlib.Nat.{zero-add, suc-add}
 use native.Mathlib.Decide.{ℕ-discrete}
 use native.Mathlib.Omega.{arith}
 use lib.Dec.{eqb}
 use lib.ListN.{length, getD, take, drop, length-map, drop-of-length-le}
 use lib.Seq.{drop-cons, length-take-le}
-use borrow.Author.Tests.{eq-eqb, ne-eqb}
+use borrow.Author.Tests.{eq-eqb, ne-eqb, lt-ltb}
 use Rattle.theory.specs.Letters.{letterOf, lineEnd, wordLength, firstWord, onFirst, wordsOf, lettersIn}
+use Rattle.theory.specs.Refusals.{isUnended}
 
 -- ── One word ──
 
@@ -119,3 +120,37 @@ letters-of-words (b ∷ bs) =
     more : (y : ℕ) (ws : List (List ℕ)) → writtenLetters (onFirst y ws) ≡ suc (writtenLetters ws)
     more y [] = unfold onFirst in refl
     more y (w ∷ ws) = unfold onFirst in suc-add (length w) (writtenLetters ws)
+
+pub letters-le : (text : List ℕ) → lettersIn text ≤ length text
+unfolding lettersIn
+letters-le [] = omega arith
+letters-le (b ∷ bs) =
+    by-cases (ℕ-discrete b lineEnd) (λ e. rw (eq-eqb b lineEnd e) (omega (arith, letters-le bs)))
+    (λ e. rw (ne-eqb b lineEnd e) (omega (arith, letters-le bs)))
+
+-- whether a text ends in a line end does not depend on what stands before its last byte
+unended-cons : (b d : ℕ) (bs : List ℕ) → isUnended (b ∷ d ∷ bs) ≡ isUnended (d ∷ bs)
+unfolding isUnended
+unended-cons b d bs = rw (lt-ltb 0 (suc (suc (length bs))) (omega arith), lt-ltb 0 (suc (length bs)) (omega arith), minus (suc (length bs)), minus (length bs))
+  where
+    minus : (k : ℕ) → suc k - 1 ≡ k
+    minus k = omega arith
+
+first-count : (y : ℕ) (ws : List (List ℕ)) → 0 < length ws → length (onFirst y ws) ≡ length ws
+unfolding onFirst
+first-count y [] h = absurd (omega arith)
+first-count y (w ∷ ws) h = refl
+
+-- each byte is a letter or ends a word, but for the last word of a text that is not ended
+pub words-count : (text : List ℕ) → length text + cond (isUnended text) 1 0 ≡ lettersIn text + length (wordsOf text)
+unfolding isUnended lettersIn wordsOf onFirst
+words-count [] = refl
+words-count (b ∷ []) =
+    by-cases (ℕ-discrete b lineEnd) (λ e. rw (eq-eqb b lineEnd e)) (λ e. rw (ne-eqb b lineEnd e))
+words-count (b ∷ (d ∷ bs)) =
+    by-cases (ℕ-discrete b lineEnd)
+    (λ e. ap (λ t. suc (suc (length bs)) + cond t 1 0) (unended-cons b d bs) ∙ rw (eq-eqb b lineEnd e) (omega (arith, words-count (d ∷ bs))))
+    (λ e. ap (λ t. suc (suc (length bs)) + cond t 1 0) (unended-cons b d bs) ∙ rw (ne-eqb b lineEnd e) (omega (arith, words-count (d ∷ bs), first-count (letterOf b) (wordsOf (d ∷ bs)) some-word)))
+  where
+    some-word : 0 < length (wordsOf (d ∷ bs))
+    some-word = rw (words-walk (d ∷ bs) (omega arith)) (omega arith)
