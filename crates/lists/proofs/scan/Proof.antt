@@ -7,6 +7,7 @@ use Rattle.lists.proofs.ScanTurn.{
   alphabet-in,
   alphabet-high,
 }
+use native.Mathlib.Omega.{arith}
 use borrow.Author.Needs.{needs}
 use Rattle.lists.proofs.scan.Statement.{statement}
 use Rattle.lists.proofs.scan.Tie as tie
@@ -22,7 +23,7 @@ refuse-requires c κs = search needs
 
 -- src/lib.rt:98:9
 returns : tie.Need-returns
-returns c = scan-alphabet _ _ _ (alphabet-low _ (c .before .if1 .taken)) (c .refuse .ensures)
+returns c = scan-alphabet _ _ _ (alphabet-low _ (omega (arith, c .before .if1 .taken))) (c .refuse .ensures)
 
 -- src/lib.rt:101:33
 refuse-requires-2 : tie.Need-refuse-requires-2
@@ -30,7 +31,7 @@ refuse-requires-2 c κs = search needs
 
 -- src/lib.rt:101:9
 returns-2 : tie.Need-returns-2
-returns-2 c = scan-alphabet _ _ _ (alphabet-high _ (c .before .before .if1 .left) (c .before .if2 .taken)) (c .refuse2 .ensures)
+returns-2 c = scan-alphabet _ _ _ (alphabet-high _ (omega (arith, c .before .before .if1 .left)) (omega (arith, c .before .if2 .taken))) (c .refuse2 .ensures)
 
 -- src/lib.rt:104:33
 refuse-requires-3 : tie.Need-refuse-requires-3
@@ -38,7 +39,7 @@ refuse-requires-3 c κs = search needs
 
 -- src/lib.rt:104:9
 returns-3 : tie.Need-returns-3
-returns-3 c = scan-long _ _ _ (alphabet-in _ (c .before .before .before .if1 .left) (c .before .before .if2 .left)) (c .before .if3 .taken) (c .refuse3 .ensures)
+returns-3 c = scan-long _ _ _ (alphabet-in _ (omega (arith, c .before .before .before .if1 .left)) (omega (arith, c .before .before .if2 .left))) (omega (arith, c .before .if3 .taken)) (c .refuse3 .ensures)
 
 -- src/lib.rt:106:11
 scan-bytes-requires : tie.Need-scan-bytes-requires
@@ -58,11 +59,11 @@ scan-end-requires c κs = search needs
 
 -- src/lib.rt:94:1
 returns-4 : tie.Need-returns-4
-returns-4 c = scan-byte _ _ _ (alphabet-in _ (c .before .before .before .before .before .before .if1 .left) (c .before .before .before .before .before .if2 .left)) (c .before .before .before .before .if3 .left) (c .before .before .before .scan-bytes .ensures) (c .before .r .given .1)
+returns-4 c = scan-byte _ _ _ (alphabet-in _ (omega (arith, c .before .before .before .before .before .before .if1 .left)) (omega (arith, c .before .before .before .before .before .if2 .left))) (omega (arith, c .before .before .before .before .if3 .left)) (c .before .before .before .scan-bytes .ensures) (c .before .r .given .1)
 
 -- src/lib.rt:94:1
 returns-5 : tie.Need-returns-5
-returns-5 c = scan-last _ _ _ (alphabet-in _ (c .before .before .before .before .before .before .if1 .left) (c .before .before .before .before .before .if2 .left)) (c .before .before .before .before .if3 .left) (c .before .before .before .scan-bytes .ensures) (c .before .enum-told .given .1) (c .scan-end .ensures)
+returns-5 c = scan-last _ _ _ (alphabet-in _ (omega (arith, c .before .before .before .before .before .before .if1 .left)) (omega (arith, c .before .before .before .before .before .if2 .left))) (omega (arith, c .before .before .before .before .if3 .left)) (c .before .before .before .scan-bytes .ensures) (c .before .enum-told .given .1) (c .scan-end .ensures)
 
 pub scan-spec : {M : Type 1} → statement M
 scan-spec =

@@ -1,4 +1,5 @@
 use mathlib.Core.Path.{refl}
+use native.Mathlib.Omega.{arith}
 use Rattle.lists.proofs.CountTurn.{first-shorter, second-shorter, first-good, second-good, none-good}
 use borrow.Author.Needs.{needs}
 use Rattle.lists.proofs.shorter.Statement.{statement}
@@ -26,11 +27,11 @@ letters-in-requires-2 c κs = search needs
 
 -- src/lib.rt:168:17
 returns : tie.Need-returns
-returns c = first-shorter _ _ _ (c .before .before .before .before .before .before .is-good .ensures) (c .before .before .before .before .before .if1 .taken) (c .before .before .before .before .is-good2 .ensures) (c .before .before .before .if2 .taken) (c .before .before .letters-in .ensures) (c .before .letters-in2 .ensures) (c .if3 .taken)
+returns c = first-shorter _ _ _ (c .before .before .before .before .before .before .is-good .ensures) (c .before .before .before .before .before .if1 .taken) (c .before .before .before .before .is-good2 .ensures) (c .before .before .before .if2 .taken) (c .before .before .letters-in .ensures) (c .before .letters-in2 .ensures) (omega (arith, c .if3 .taken))
 
 -- src/lib.rt:170:13
 returns-2 : tie.Need-returns-2
-returns-2 c = second-shorter _ _ _ (c .before .before .before .before .before .before .is-good .ensures) (c .before .before .before .before .before .if1 .taken) (c .before .before .before .before .is-good2 .ensures) (c .before .before .before .if2 .taken) (c .before .before .letters-in .ensures) (c .before .letters-in2 .ensures) (c .if3 .left)
+returns-2 c = second-shorter _ _ _ (c .before .before .before .before .before .before .is-good .ensures) (c .before .before .before .before .before .if1 .taken) (c .before .before .before .before .is-good2 .ensures) (c .before .before .before .if2 .taken) (c .before .before .letters-in .ensures) (c .before .letters-in2 .ensures) (omega (arith, c .if3 .left))
 
 -- src/lib.rt:172:9
 returns-3 : tie.Need-returns-3

@@ -48,7 +48,7 @@ same-length c = search needs
 
 -- src/lib.rt:39:13
 returns : tie.Need-returns
-returns c = pushed-gone _ _ _ _ (c .before .before .before .before .before .pre .0) (c .before .before .before .if1 .taken) (c .if2 .taken ∙ c .before .inverse .ensures)
+returns c = pushed-gone _ _ _ _ (c .before .before .before .before .before .pre .0) (omega (arith, c .before .before .before .if1 .taken)) (c .if2 .taken ∙ c .before .inverse .ensures)
 
 -- src/lib.rt:42:5
 mul-work-3 : tie.Need-mul-work-3
