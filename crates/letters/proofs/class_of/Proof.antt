@@ -1,3 +1,5 @@
+-- `letters::class_of` meets its contract. Each arm is a law of `ClassLaws`, by the range that led to it.
+-- Assumes nothing.
 use mathlib.Core.Path.{sym}
 use mathlib.Core.Logic.{inl, inr}
 use native.Mathlib.Omega.{arith}
@@ -5,38 +7,28 @@ use borrow.Author.Needs.{needs}
 use Rattle.letters.proofs.ClassLaws.{class-lower, class-upper, class-end, class-other}
 use Rattle.letters.proofs.class_of.Statement.{statement}
 use Rattle.letters.proofs.class_of.Tie as tie
-use Rattle.letters.proofs.class_of.Reads as reads
-use Rattle.letters.proofs.class_of.Lts as lts
 
--- src/lib.rt:78:33
 sub-t4 : tie.Need-sub-t4
 sub-t4 c = search needs
 
--- src/lib.rt:77:34
 sub-t5 : tie.Need-sub-t5
 sub-t5 c = search needs
 
--- src/lib.rt:73:1
 returns : tie.Need-returns
 returns c = sym (class-end _ (c .match .keys1))
 
--- src/lib.rt:73:1
 returns-2 : tie.Need-returns-2
 returns-2 c = sym (class-upper (c .before .before .before .args .b) (omega arith) (omega arith))
 
--- src/lib.rt:73:1
 returns-3 : tie.Need-returns-3
 returns-3 c = sym (class-lower (c .before .before .before .before .before .args .b) (omega arith) (omega arith))
 
--- src/lib.rt:73:1
 returns-4 : tie.Need-returns-4
 returns-4 c = sym (class-other (c .before .before .args .b) (c .before .match .rest .1) (inl (omega arith)))
 
--- src/lib.rt:73:1
 returns-5 : tie.Need-returns-5
 returns-5 c = sym (class-other (c .before .before .before .before .args .b) (c .before .before .before .match .rest .1) (inr (inl (omega arith, omega arith))))
 
--- src/lib.rt:73:1
 returns-6 : tie.Need-returns-6
 returns-6 c = sym (class-other (c .before .before .before .before .before .args .b) (c .before .before .before .before .match .rest .1) (inr (inr (omega arith))))
 

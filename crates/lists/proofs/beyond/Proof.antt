@@ -1,17 +1,15 @@
+-- `lists::beyond` meets its contract. Both arms are the test of the definition.
+-- Assumes nothing.
 use borrow.Author.Tests.{le-leb, lt-leb}
 use Rattle.lists.specs.Scans.{beyondDraws}
 use borrow.Author.Needs.{needs}
 use Rattle.lists.proofs.beyond.Statement.{statement}
 use Rattle.lists.proofs.beyond.Tie as tie
-use Rattle.lists.proofs.beyond.Reads as reads
-use Rattle.lists.proofs.beyond.Lts as lts
 
--- src/lib.rt:26:1
 returns : tie.Need-returns
 unfolding beyondDraws
 returns c = simp (le-leb _ _ (c .if1 .taken))
 
--- src/lib.rt:26:1
 returns-2 : tie.Need-returns-2
 unfolding beyondDraws
 returns-2 c = simp (lt-leb _ _ (c .if1 .left))

@@ -1,35 +1,27 @@
+-- `lists::count` meets its contract. The words, from the letters and whether the last word is ended (`CountTurn`).
+-- Assumes nothing.
 use native.Mathlib.Omega.{arith}
 use Rattle.theory.proofs.TextLaws.{letters-le}
 use Rattle.lists.proofs.CountTurn.{count-unended, count-ended}
 use borrow.Author.Needs.{needs}
 use Rattle.lists.proofs.count.Statement.{statement}
 use Rattle.lists.proofs.count.Tie as tie
-use Rattle.lists.proofs.count.Reads as reads
-use Rattle.lists.proofs.count.Lts as lts
-use Rattle.lists.proofs.letters_in.Reads as letters-in-reads
-use Rattle.lists.proofs.unended.Reads as unended-reads
 
--- src/lib.rt:122:9
 letters-in-requires : tie.Need-letters-in-requires
 letters-in-requires c κs = search needs
 
--- src/lib.rt:123:16
 sub-ends : tie.Need-sub-ends
 sub-ends c = omega (arith, letters-le (c .before .before .args .text .now), c .letters-in .ensures)
 
--- src/lib.rt:124:8
 unended-requires : tie.Need-unended-requires
 unended-requires c κs = search needs
 
--- src/lib.rt:127:20
 add-t7 : tie.Need-add-t7
 add-t7 c = search needs
 
--- src/lib.rt:119:1
 returns : tie.Need-returns
 returns c = count-unended _ _ _ (c .before .before .letters-in .ensures) (c .before .unended .ensures) (c .if1 .taken)
 
--- src/lib.rt:119:1
 returns-2 : tie.Need-returns-2
 returns-2 c = count-ended _ _ _ (c .before .before .letters-in .ensures) (c .before .unended .ensures) (c .if1 .left)
 

@@ -1,3 +1,5 @@
+-- `lists::draws` meets its contract. Each arm is what the class says of the byte (letters, `ClassLaws`).
+-- Assumes nothing.
 use mathlib.Core.Path.{sym, _∙_, ap}
 use mathlib.Core.Bool.{cond}
 use Rattle.letters.proofs.ClassLaws.{told}
@@ -5,66 +7,48 @@ use Rattle.lists.specs.Scans.{beyondDraws}
 use borrow.Author.Needs.{needs}
 use Rattle.lists.proofs.draws.Statement.{statement}
 use Rattle.lists.proofs.draws.Tie as tie
-use Rattle.lists.proofs.draws.Reads as reads
-use Rattle.lists.proofs.draws.Lts as lts
-use Rattle.letters.proofs.class_of.Reads as class-of-reads
-use Rattle.lists.proofs.beyond.Reads as beyond-reads
 
--- src/lib.rt:40:11
 class-of-requires : tie.Need-class-of-requires
 class-of-requires c κs = search needs
 
--- src/lib.rt:41:22
 enum-known-g : tie.Need-enum-known-g
 enum-known-g c = search needs
 
--- src/lib.rt:41:35
 cast-beyond : tie.Need-cast-beyond
 cast-beyond c = search needs
 
--- src/lib.rt:41:28
 beyond-requires : tie.Need-beyond-requires
 beyond-requires c κs = search needs
 
--- src/lib.rt:42:22
 enum-known-g-2 : tie.Need-enum-known-g-2
 enum-known-g-2 c = search needs
 
--- src/lib.rt:42:35
 cast-beyond-2 : tie.Need-cast-beyond-2
 cast-beyond-2 c = search needs
 
--- src/lib.rt:42:28
 beyond-requires-2 : tie.Need-beyond-requires-2
 beyond-requires-2 c κs = search needs
 
--- src/lib.rt:44:16
 enum-told : tie.Need-enum-told
 enum-told c = search needs
 
--- src/lib.rt:50:25
 enum-told-2 : tie.Need-enum-told-2
 enum-told-2 c = search needs
 
--- src/lib.rt:37:1
 returns : tie.Need-returns
 unfolding beyondDraws
 returns c = c .beyond .ensures ∙ sym (told _ _ _ (c .before .before .before .before .before .fits .b .fits) (c .before .before .before .before .class-of .ensures) (c .before .before .g .given .1) .draws)
 
--- src/lib.rt:37:1
 returns-2 : tie.Need-returns-2
 unfolding beyondDraws
 returns-2 c = c .beyond2 .ensures ∙ sym (told _ _ _ (c .before .before .before .before .before .fits .b .fits) (c .before .before .before .before .class-of .ensures) (c .before .before .g2 .given .1) .draws)
 
--- src/lib.rt:37:1
 returns-3 : tie.Need-returns-3
 returns-3 c = sym (told _ _ _ (c .before .before .before .before .fits .b .fits) (c .before .before .before .class-of .ensures) (c .before .enum-told .given .1) .draws ∙ ap (λ l. cond l 0 3) (c .if1 .taken))
 
--- src/lib.rt:37:1
 returns-4 : tie.Need-returns-4
 returns-4 c = sym (told _ _ _ (c .before .before .before .before .fits .b .fits) (c .before .before .before .class-of .ensures) (c .before .enum-told .given .1) .draws ∙ ap (λ l. cond l 0 3) (c .if1 .left))
 
--- src/lib.rt:37:1
 returns-5 : tie.Need-returns-5
 returns-5 c = sym (told _ _ _ (c .before .before .before .fits .b .fits) (c .before .before .class-of .ensures) (c .enum-told2 .given .1) .draws)
 

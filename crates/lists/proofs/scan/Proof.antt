@@ -1,3 +1,5 @@
+-- `lists::scan` meets its contract. The stages of `textRefusal`, one after the other (`ScanTurn`).
+-- Assumes nothing.
 use Rattle.lists.proofs.ScanTurn.{
   scan-alphabet,
   scan-long,
@@ -11,57 +13,40 @@ use native.Mathlib.Omega.{arith}
 use borrow.Author.Needs.{needs}
 use Rattle.lists.proofs.scan.Statement.{statement}
 use Rattle.lists.proofs.scan.Tie as tie
-use Rattle.lists.proofs.scan.Reads as reads
-use Rattle.lists.proofs.scan.Lts as lts
-use Rattle.lists.proofs.scan_bytes.Reads as scan-bytes-reads
-use Rattle.lists.proofs.scan_end.Reads as scan-end-reads
-use Rattle.refusals.proofs.refuse.Reads as refuse-reads
 
--- src/lib.rt:98:33
 refuse-requires : tie.Need-refuse-requires
 refuse-requires c κs = search needs
 
--- src/lib.rt:98:9
 returns : tie.Need-returns
 returns c = scan-alphabet _ _ _ (alphabet-low _ (omega (arith, c .before .if1 .taken))) (c .refuse .ensures)
 
--- src/lib.rt:101:33
 refuse-requires-2 : tie.Need-refuse-requires-2
 refuse-requires-2 c κs = search needs
 
--- src/lib.rt:101:9
 returns-2 : tie.Need-returns-2
 returns-2 c = scan-alphabet _ _ _ (alphabet-high _ (omega (arith, c .before .before .if1 .left)) (omega (arith, c .before .if2 .taken))) (c .refuse2 .ensures)
 
--- src/lib.rt:104:33
 refuse-requires-3 : tie.Need-refuse-requires-3
 refuse-requires-3 c κs = search needs
 
--- src/lib.rt:104:9
 returns-3 : tie.Need-returns-3
 returns-3 c = scan-long _ _ _ (alphabet-in _ (omega (arith, c .before .before .before .if1 .left)) (omega (arith, c .before .before .if2 .left))) (omega (arith, c .before .if3 .taken)) (c .refuse3 .ensures)
 
--- src/lib.rt:106:11
 scan-bytes-requires : tie.Need-scan-bytes-requires
 scan-bytes-requires c κs = search needs
 
--- src/lib.rt:107:26
 enum-known-r : tie.Need-enum-known-r
 enum-known-r c = search needs
 
--- src/lib.rt:108:26
 enum-told : tie.Need-enum-told
 enum-told c = search needs
 
--- src/lib.rt:108:26
 scan-end-requires : tie.Need-scan-end-requires
 scan-end-requires c κs = search needs
 
--- src/lib.rt:94:1
 returns-4 : tie.Need-returns-4
 returns-4 c = scan-byte _ _ _ (alphabet-in _ (omega (arith, c .before .before .before .before .before .before .if1 .left)) (omega (arith, c .before .before .before .before .before .if2 .left))) (omega (arith, c .before .before .before .before .if3 .left)) (c .before .before .before .scan-bytes .ensures) (c .before .r .given .1)
 
--- src/lib.rt:94:1
 returns-5 : tie.Need-returns-5
 returns-5 c = scan-last _ _ _ (alphabet-in _ (omega (arith, c .before .before .before .before .before .before .if1 .left)) (omega (arith, c .before .before .before .before .before .if2 .left))) (omega (arith, c .before .before .before .before .if3 .left)) (c .before .before .before .scan-bytes .ensures) (c .before .enum-told .given .1) (c .scan-end .ensures)
 

@@ -1,3 +1,5 @@
+-- `lists::scan_bytes` meets its contract. The loop: i bytes draw nothing (`ScanTurn`).
+-- Assumes nothing.
 use mathlib.Core.Path.{sym, _∙_}
 use Prim.Native.Nat.{_-_}
 use lib.ListN.{length}
@@ -5,10 +7,6 @@ use Rattle.lists.proofs.ScanTurn.{Head, head-first, head-turn, head-sto
 use borrow.Author.Needs.{needs}
 use Rattle.lists.proofs.scan_bytes.Statement.{statement}
 use Rattle.lists.proofs.scan_bytes.Tie as tie
-use Rattle.lists.proofs.scan_bytes.Reads as reads
-use Rattle.lists.proofs.scan_bytes.Lts as lts
-use Rattle.lists.proofs.draws.Reads as draws-reads
-use Rattle.refusals.proofs.refuse.Reads as refuse-reads
 
 abbrev Inv-loop : tie.InvT-loop
 Inv-loop n text lines i₀ i = Head n lines text i
@@ -16,39 +14,30 @@ Inv-loop n text lines i₀ i = Head n lines text i
 abbrev μ-loop : tie.MeasureT-loop
 μ-loop n text lines i₀ i = length text - i
 
--- src/lib.rt:59:5
 loop-holds : tie.Need-loop-holds Inv-loop μ-loop
 loop-holds c = head-first
 
--- src/lib.rt:60:26
 shared-slice-read-draws : tie.Need-shared-slice-read-draws Inv-loop μ-loop
 shared-slice-read-draws c = search needs
 
--- src/lib.rt:60:13
 draws-requires : tie.Need-draws-requires Inv-loop μ-loop
 draws-requires c κs = search needs
 
--- src/lib.rt:62:37
 refuse-requires : tie.Need-refuse-requires Inv-loop μ-loop
 refuse-requires c κs = search needs
 
--- src/lib.rt:62:13
 returns : tie.Need-returns Inv-loop μ-loop
 returns c = head-stop (c .before .before .before .before .before .loop .inv) (c .before .before .before .before .loop-test .taken) (c .before .before .draws .ensures) (c .before .if1 .taken) (c .refuse .ensures)
 
--- src/lib.rt:64:9
 add-i : tie.Need-add-i Inv-loop μ-loop
 add-i c = search needs
 
--- src/lib.rt:59:5
 loop-less : tie.Need-loop-less Inv-loop μ-loop
 loop-less c = search needs
 
--- src/lib.rt:59:5
 loop-again : tie.Need-loop-again Inv-loop μ-loop
 loop-again c = head-turn (c .before .before .before .before .loop .inv) (c .before .before .before .loop-test .taken) (sym (c .before .draws .ensures) ∙ c .if1 .left)
 
--- src/lib.rt:55:1
 returns-2 : tie.Need-returns-2 Inv-loop μ-loop
 returns-2 c = head-end (c .before .loop .inv) (c .loop-test .left)
 

@@ -1,55 +1,42 @@
+-- `lists::shorter` meets its contract. Each answer is a case of `whichOf`; the empty start points where the first list does (`CountTurn`).
+-- Assumes nothing.
 use mathlib.Core.Path.{refl}
 use native.Mathlib.Omega.{arith}
 use Rattle.lists.proofs.CountTurn.{first-shorter, second-shorter, first-good, second-good, none-good}
 use borrow.Author.Needs.{needs}
 use Rattle.lists.proofs.shorter.Statement.{statement}
 use Rattle.lists.proofs.shorter.Tie as tie
-use Rattle.lists.proofs.shorter.Reads as reads
-use Rattle.lists.proofs.shorter.Lts as lts
-use Rattle.lists.proofs.is_good.Reads as is-good-reads
-use Rattle.lists.proofs.letters_in.Reads as letters-in-reads
 
--- src/lib.rt:165:8
 is-good-requires : tie.Need-is-good-requires
 is-good-requires c κs = search needs
 
--- src/lib.rt:166:12
 is-good-requires-2 : tie.Need-is-good-requires-2
 is-good-requires-2 c κs = search needs
 
--- src/lib.rt:167:16
 letters-in-requires : tie.Need-letters-in-requires
 letters-in-requires c κs = search needs
 
--- src/lib.rt:167:37
 letters-in-requires-2 : tie.Need-letters-in-requires-2
 letters-in-requires-2 c κs = search needs
 
--- src/lib.rt:168:17
 returns : tie.Need-returns
 returns c = first-shorter _ _ _ (c .before .before .before .before .before .before .is-good .ensures) (c .before .before .before .before .before .if1 .taken) (c .before .before .before .before .is-good2 .ensures) (c .before .before .before .if2 .taken) (c .before .before .letters-in .ensures) (c .before .letters-in2 .ensures) (omega (arith, c .if3 .taken))
 
--- src/lib.rt:170:13
 returns-2 : tie.Need-returns-2
 returns-2 c = second-shorter _ _ _ (c .before .before .before .before .before .before .is-good .ensures) (c .before .before .before .before .before .if1 .taken) (c .before .before .before .before .is-good2 .ensures) (c .before .before .before .if2 .taken) (c .before .before .letters-in .ensures) (c .before .letters-in2 .ensures) (omega (arith, c .if3 .left))
 
--- src/lib.rt:172:9
 returns-3 : tie.Need-returns-3
 returns-3 c = first-good _ _ _ (c .before .before .before .is-good .ensures) (c .before .before .if1 .taken) (c .before .is-good2 .ensures) (c .if2 .left)
 
--- src/lib.rt:174:8
 is-good-requires-3 : tie.Need-is-good-requires-3
 is-good-requires-3 c κs = search needs
 
--- src/lib.rt:175:9
 returns-4 : tie.Need-returns-4
 returns-4 c = second-good _ _ _ (c .before .before .before .is-good .ensures) (c .before .before .if1 .left) (c .before .is-good3 .ensures) (c .if4 .taken)
 
--- src/lib.rt:177:5
 slice-aggregate-result : tie.Need-slice-aggregate-result
 slice-aggregate-result c = search needs
 
--- src/lib.rt:162:1
 returns-5 : tie.Need-returns-5
 returns-5 c = none-good _ _ _ _ (c .before .before .before .before .is-good .ensures) (c .before .before .before .if1 .left) (c .before .before .is-good3 .ensures) (c .before .if4 .left) refl refl
 

@@ -1,3 +1,5 @@
+-- `words::push` meets its contract. The two outcomes are the two cases of `Pushed` (`PushLaws`).
+-- Assumes nothing.
 use mathlib.Core.Path.{_∙_, sym}
 use mathlib.Core.Logic.{⊎-elim}
 use native.Mathlib.Omega.{arith}
@@ -6,67 +8,49 @@ use borrow.Author.Needs.{needs}
 use Rattle.words.proofs.PushLaws.{pushed-gone, pushed-stays}
 use Rattle.words.proofs.push.Statement.{statement}
 use Rattle.words.proofs.push.Tie as tie
-use Rattle.words.proofs.push.Reads as reads
-use Rattle.words.proofs.push.Lts as lts
-use Rattle.letters.proofs.inverse.Reads as inverse-reads
 
--- src/lib.rt:34:5
 mul-work : tie.Need-mul-work
 mul-work c = search needs
 
--- src/lib.rt:34:5
 slice-write-work : tie.Need-slice-write-work
 slice-write-work c = search needs
 
--- src/lib.rt:36:20
 sub-last : tie.Need-sub-last
 sub-last c = search needs
 
--- src/lib.rt:37:12
 mul-if2 : tie.Need-mul-if2
 mul-if2 c = search needs
 
--- src/lib.rt:37:12
 slice-read-if2 : tie.Need-slice-read-if2
 slice-read-if2 c = simp length-set (omega arith)
 
--- src/lib.rt:37:26
 inverse-requires : tie.Need-inverse-requires
 inverse-requires c κs = search needs
 
--- src/lib.rt:38:13
 mul-work-2 : tie.Need-mul-work-2
 mul-work-2 c = search needs
 
--- src/lib.rt:38:13
 slice-write-work-2 : tie.Need-slice-write-work-2
 slice-write-work-2 c = simp length-set (omega arith)
 
--- src/lib.rt:39:13
 same-length : tie.Need-same-length
 same-length c = search needs
 
--- src/lib.rt:39:13
 returns : tie.Need-returns
 returns c = pushed-gone _ _ _ _ (c .before .before .before .before .before .pre .0) (omega (arith, c .before .before .before .if1 .taken)) (c .if2 .taken ∙ c .before .inverse .ensures)
 
--- src/lib.rt:42:5
 mul-work-3 : tie.Need-mul-work-3
 mul-work-3 c = search needs
 
--- src/lib.rt:42:5
 slice-write-work-3 : tie.Need-slice-write-work-3
 slice-write-work-3 c = simp length-set (omega arith)
 
--- src/lib.rt:43:5
 add-result : tie.Need-add-result
 add-result c = search needs
 
--- src/lib.rt:30:1
 same-length-2 : tie.Need-same-length-2
 same-length-2 c = search needs
 
--- src/lib.rt:30:1
 returns-2 : tie.Need-returns-2
 returns-2 c = pushed-stays _ _ _ _ (c .before .before .pre .0) (⊎-elim (λ w h e. w .3 .left (e ∙ sym (w .2 .ensures))) (λ w h e. omega (arith, h, w .left)) (c .if1 .came))
 
