@@ -2,3 +2,4 @@
 pub mod ScanTurn
 pub mod CountTurn
 pub mod Determined
+pub mod Refuted
