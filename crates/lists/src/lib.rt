@@ -1,11 +1,11 @@
 // Lists of words: the first refusal of a text, its counts, the walk from word to word, the shorter of two lists.
 ghost use mathlib.Core.Path.{_≡_};
-ghost use Prim.Native.Nat.{_+_, _≤_};
+ghost use Prim.Native.Nat.{_-_, _≤_};
 ghost use lib.ListN.{length};
 ghost use Rattle.theory.specs.Letters.{lettersIn};
 ghost use Rattle.theory.specs.Refusals.{byteRefusal, isUnended, bytesRefusal, textRefusal};
 ghost use Rattle.lists.specs.Scans.{scannedAs, beyondDraws, lastOf};
-ghost use Rattle.lists.specs.Counts.{CountsOf, nextStart};
+ghost use Rattle.lists.specs.Counts.{CountsOf, nextStart, StartSizeOf};
 ghost use Rattle.lists.specs.Shorter.{isGood, HandedBack};
 use letters::Class;
 use refusals::Refusal;
@@ -175,4 +175,40 @@ pub fn shorter<'a>(n: u64, first: &'a [u8], second: &'a [u8]) -> &'a [u8]
         return second;
     }
     &first[..0]
+}
+
+// The size of the start graph: its points and its edges.
+pub struct StartSize {
+    pub points: usize,
+    pub edges: usize,
+}
+
+// The new points of a circle of `left` letters: one less than its letters.
+fn new_points(left: usize) -> usize
+    ensures new { λ r. ⌜ r ≡ left - 1 ⌝ }
+{
+    if left == 0 {
+        0
+    } else {
+        left - 1
+    }
+}
+
+// The size of a list's start graph. The words are reduced one after the other in the lent cells, a cell for each
+// letter of the list; these are 0 afterwards.
+pub fn start_size(list: &[u8], work: &mut [u32]) -> StartSize
+    requires { ⌜ lettersIn (now list) ≤ length (now work) ⌝ }
+    ensures size { λ r. ⌜ StartSizeOf (now (list .entry)) (now (work .entry)) r (now (work .exit)) ⌝ }
+{
+    let mut points: usize = 1;
+    let mut edges: usize = 0;
+    let mut at: usize = 0;
+    while at < list.len() {
+        let word = words::reduce(&list[at..], work);
+        points += new_points(word.left);
+        edges += word.left;
+        at = next_start(list, at);
+    }
+    cells::fill(work, letters_in(list), 0);
+    StartSize { points, edges }
 }

@@ -17,4 +17,15 @@ pub mod EdgeLaws
 pub mod BasisLaws
 pub mod ExpressionLaws
 pub mod FoldLaws
+pub mod MemLaws
+pub mod GraphLaws
+pub mod LabelLaws
+pub mod CircleLaws
+pub mod StartLaws
+pub mod FoldParts
+pub mod FoldSteps
+pub mod SameLaws
+pub mod FoldEnds
+pub mod EdgeCounts
+pub mod FoldCounts
 pub mod ExamplesHold

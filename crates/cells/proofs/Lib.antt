@@ -1,0 +1,2 @@
+-- The turns of `fill`, and the laws of `filled`.
+pub mod FillTurn
