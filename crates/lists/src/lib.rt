@@ -187,11 +187,7 @@ pub struct StartSize {
 fn new_points(left: usize) -> usize
     ensures new { λ r. ⌜ r ≡ left - 1 ⌝ }
 {
-    if left == 0 {
-        0
-    } else {
-        left - 1
-    }
+    if left == 0 { 0 } else { left - 1 }
 }
 
 // The size of a list's start graph. The words are reduced one after the other in the lent cells, a cell for each

@@ -16,6 +16,7 @@ use lib.ListN.{length, getD}
 use Rattle.theory.specs.Words.{inv, reducedBy, reduced, inverseOf, Member, SameSubgroup}
 use Rattle.theory.specs.Words.{named, product, Names, AllNames}
 use Rattle.theory.specs.Tables.{Cells, Leads, Reads, Accepts}
+pub use Rattle.theory.specs.Subgroups.{Prefix, EndsAlike, PointOf, SameGraph, SameNames}
 use Rattle.theory.specs.Canonical.{Canonical}
 use Rattle.theory.specs.Graphs.{Edge, Graph, isLower, edgeOf, Along}
 use Rattle.theory.specs.Folds.{Pair, edgeAt, Folded, otherEnd}
@@ -91,10 +92,6 @@ folded-inverse g F =
         by-cases (ℕ-discrete i j)
         (λ e. sym (edge-other v y x) ∙ ap (otherEnd y) (sym p ∙ ap (edgeAt g) e ∙ q) ∙ edge-other v y z)
         (λ d. absurd (F i j x z d hi hj (along-pair v y x z (edgeAt g i) (edgeAt g j) p q)))
-
--- p is a point of g
-abbrev pub PointOf : Graph → ℕ → Type 0
-PointOf g p = p ∈ g .points
 
 module _ {ws : List (List ℕ)} {g : Graph} (G : Good ws g) where
   good-ends : (v y x : ℕ) → Along (g .edges) v y x → PointOf g x
@@ -175,14 +172,6 @@ module _ {ws : List (List ℕ)} {c : Cells} {N : ℕ} {ys : List ℕ} (T : Table
       K : Canonical N ys c
       K = T .setting .canonical
 
--- a graph and a table are the same but for names
-abbrev pub SameGraph : Graph → ℕ → Cells → Type 0
-SameGraph g N c = Same (PointOf g) (Along (g .edges)) (g .base) (λ v. v < N) (Leads c) 0
-
--- two graphs are the same but for names
-abbrev pub SameNames : Graph → Graph → Type 0
-SameNames g h = Same (PointOf g) (Along (g .edges)) (g .base) (PointOf h) (Along (h .edges)) (h .base)
-
 -- a good folded graph is the canonical table of its subgroup
 pub good-table : {ws : List (List ℕ)} {g : Graph} {c : Cells} {N : ℕ} {ys : List ℕ} → Good ws g → Folded g
     → TableFor ws c N ys → SameGraph g N c
@@ -201,18 +190,6 @@ good-same U G F K L =
     ))
 
 -- ── Prefixes of the reduced listed words ──
-
--- u begins a reduced listed word
-abbrev pub Prefix : List (List ℕ) → List ℕ → Type 0
-Prefix ws u = (i : ℕ) × (u′ : List ℕ) × (i < length ws) × (u ++ u′ ≡ reduced (getD ws i []))
-
--- u and v can be read from b, and end at one point exactly if u, inverse v is a member
-pub record EndsAlike (ws : List (List ℕ)) (E : Steps) (b : ℕ) (u v : List ℕ) : Type 0 where
-  pub first : ℕ
-  pub second : ℕ
-  pub firstReads : Reads E b u first
-  pub secondReads : Reads E b v second
-  pub alike : (first ≡ second) ↔ Member ws (u ++ inverseOf v)
 
 module _ (ws : List (List ℕ)) {E : Steps} (I : Inverse E) (b : ℕ)
     (accepts : (q : List ℕ) → ReadsHome E b q ↔ Member ws q) where

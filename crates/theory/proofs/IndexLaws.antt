@@ -19,6 +19,8 @@ use borrow.Author.Tests.{eq-eqb, ne-eqb, eqb-true, not-true, not-false}
 use Rattle.theory.specs.Words.{inv, reduced, Reduced, inverseOf}
 use Rattle.theory.specs.Tables.{absent, Cells, Leads, Reads, Accepts}
 use Rattle.theory.specs.Canonical.{Canonical}
+pub use Rattle.theory.specs.Subgroups.{SameCoset, Cosets, Endless}
+pub use Rattle.theory.specs.Letters.{AllIn}
 use Rattle.theory.specs.Basis.{Spot, spotsOf, scan, finite, infinite, all, indexOf}
 use Rattle.theory.proofs.WordLaws.{
   byTest,
@@ -48,19 +50,11 @@ use Rattle.theory.proofs.ReadLaws.{
 use Rattle.theory.proofs.TableLaws.{StandsIn, Bounded}
 use Rattle.theory.proofs.OneTable.{leads-here, point-reached, next-letter}
 
-abbrev pub AllIn : List ℕ → List ℕ → Type 0
-AllIn ys [] = Unit {0}
-AllIn ys (y ∷ w) = StandsIn ys y × AllIn ys w
-
 abbrev pub Full : Cells → ℕ → List ℕ → Type 0
 Full c N ys = (v y : ℕ) → v < N → StandsIn ys y → c v y ≡ absent → ⊥
 
 abbrev pub Gap : Cells → ℕ → List ℕ → Type 0
 Gap c N ys = (v : ℕ) × (y : ℕ) × (v < N) × StandsIn ys y × (c v y ≡ absent)
-
--- u and v lie in one coset of what c accepts
-abbrev pub SameCoset : Cells → List ℕ → List ℕ → Type 0
-SameCoset c u v = Accepts c (u ++ inverseOf v)
 
 -- ── Cosets ──
 
@@ -119,12 +113,6 @@ module _ {N : ℕ} {ys : List ℕ} {c : Cells} (k : Canonical N ys c) where
 -- ── No cell absent ──
 
 -- N words over ys, one of each coset
-pub record Cosets (c : Cells) (ys : List ℕ) (N : ℕ) : Type 0 where
-  pub word : (i : ℕ) → i < N → List ℕ
-  pub over : (i : ℕ) (h : i < N) → AllIn ys (word i h)
-  pub apart : (i j : ℕ) (h : i < N) (g : j < N) → SameCoset c (word i h) (word j g) → i ≡ j
-  pub cover : (w : List ℕ) → AllIn ys w → (i : ℕ) × (h : i < N) × SameCoset c w (word i h)
-
 -- where no cell is absent, the N points are the cosets
 pub full-cosets : {N : ℕ} {ys : List ℕ} {c : Cells} → Canonical N ys c → 0 < N → Bounded c N ys → Full c N ys → Cosets c ys N
 full-cosets {N} {ys} {c} k hN b f =
@@ -142,11 +130,6 @@ full-cosets {N} {ys} {c} k hN b f =
 -- ── Some cell absent ──
 
 -- words over ys without end, no two of them in one coset
-pub record Endless (c : Cells) (ys : List ℕ) : Type 0 where
-  pub word : ℕ → List ℕ
-  pub over : (i : ℕ) → AllIn ys (word i)
-  pub apart : (i j : ℕ) → SameCoset c (word i) (word j) → i ≡ j
-
 all-in-append : (ys u w : List ℕ) → AllIn ys u → AllIn ys w → AllIn ys (u ++ w)
 all-in-append ys [] w a b = b
 all-in-append ys (y ∷ u) w a b = (a .0, all-in-append ys u w (a .1) b)

@@ -29,3 +29,4 @@ pub mod FoldEnds
 pub mod EdgeCounts
 pub mod FoldCounts
 pub mod ExamplesHold
+pub mod Main

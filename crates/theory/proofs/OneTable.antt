@@ -24,6 +24,7 @@ use Rattle.theory.specs.Words.{inv, reduced, Reduced, inverseOf, Member,
 use Rattle.theory.specs.Letters.{usual}
 use Rattle.theory.specs.Tables.{absent, Cells, cell, Leads, Reads, Accepts}
 use Rattle.theory.specs.Canonical.{Canonical, rowOf, rowsBefore, earlier, greatestMet}
+pub use Rattle.theory.specs.Subgroups.{AcceptsExactly}
 use Rattle.theory.proofs.WordLaws.{byTest, letters, reduced-none, reduced-fixed}
 use Rattle.theory.proofs.RefusalLaws.{and-true}
 use Rattle.theory.proofs.ReadLaws.{
@@ -391,10 +392,6 @@ one-table {ys} {N} {M} {c} {d} k m hN hM bc bd f g = (
     a = record { left = k; right = m; some-left = hN; some-right = hM; there = f; back = g }
 
 -- ── Tables of lists ──
-
--- cells accept exactly the members of a list's subgroup
-abbrev pub AcceptsExactly : Cells → List (List ℕ) → Type 0
-AcceptsExactly c ws = ((q : List ℕ) → Member ws q → Accepts c q) × ((q : List ℕ) → Accepts c q → Member ws q)
 
 -- tables of one subgroup are equal cell for cell
 pub tables-equal : (n : ℕ) {N M : ℕ} (t s : List ℕ) (us ws : List (List ℕ)) → Canonical N (usual n) (cell n N t) → Canonical M (usual n) (cell n M s) → 0 < N → 0 < M → AcceptsExactly (cell n N t) us → AcceptsExactly (cell n M s) ws → SameSubgroup us ws → (N ≡ M) × ((v y : ℕ) → cell n N t v y ≡ cell n M s v y)

@@ -32,6 +32,7 @@ use Rattle.theory.specs.Words.{
   Member,
 }
 use Rattle.theory.specs.Tables.{absent, Cells, Leads, Reads, endOf, Accepts, isAt, isAccepted}
+pub use Rattle.theory.specs.Tables.{Steps}
 use Rattle.theory.specs.Canonical.{Canonical}
 use Rattle.theory.proofs.WordLaws.{
   byTest,
@@ -50,10 +51,6 @@ use Rattle.theory.proofs.WordLaws.{
   member-inverse,
   member-cong,
 }
-
--- what each letter does at each point
-abbrev pub Steps : Type 1
-Steps = ℕ → ℕ → ℕ → Type 0
 
 pub record Inverse (E : Steps) : Type 0 where
   pub one : (v y x z : ℕ) → E v y x → E v y z → x ≡ z

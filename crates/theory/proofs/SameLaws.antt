@@ -11,6 +11,7 @@ use mathlib.Core.List.{List, [], _∷_, _++_, append-assoc}
 use Prim.Native.Nat.{ℕ}
 use Rattle.theory.specs.Words.{inv, reducedBy, put, reduced, Reduced, inverseOf}
 use Rattle.theory.specs.Tables.{Reads}
+pub use Rattle.theory.specs.Subgroups.{Same}
 use Rattle.theory.proofs.WordLaws.{letters, reduced-none, reduced-fixed, reduced-idem, append-cong}
 use Rattle.theory.proofs.WordLaws.{inverse-left, gone-between}
 use Rattle.theory.proofs.ReadLaws.{Steps, Inverse, reads-append, reads-back, reads-reduced, ends-loop, loop-ends}
@@ -26,17 +27,6 @@ pub record Core (P : ℕ → Type 0) (E : Steps) (b : ℕ) : Type 0 where
   pub baseIn : P b
   pub ends : (v y x : ℕ) → E v y x → P x
   pub reach : (p : ℕ) → P p → (u : List ℕ) × Reads E b u p
-
-pub record Same (P : ℕ → Type 0) (E : Steps) (b : ℕ) (Q : ℕ → Type 0) (F : Steps) (d : ℕ) : Type 0 where
-  pub onto : ℕ → ℕ
-  pub back : ℕ → ℕ
-  pub base : onto b ≡ d
-  pub lands : (p : ℕ) → P p → Q (onto p)
-  pub returns : (q : ℕ) → Q q → P (back q)
-  pub back-onto : (p : ℕ) → P p → back (onto p) ≡ p
-  pub onto-back : (q : ℕ) → Q q → onto (back q) ≡ q
-  pub steps : (p y x : ℕ) → E p y x → F (onto p) y (onto x)
-  pub steps-back : (q y z : ℕ) → F q y z → E (back q) y (back z)
 
 -- what a word reaches is a point
 pub reads-in : (E : Steps) (P : ℕ → Type 0) → ((v y x : ℕ) → E v y x → P x)

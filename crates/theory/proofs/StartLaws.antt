@@ -17,6 +17,7 @@ use Rattle.theory.specs.Words.{put, reducedBy, undoes, reduced, Member}
 use Rattle.theory.specs.Letters.{letterOf, lineEnd, upTo, onFirst, wordsOf, lettersIn}
 use Rattle.theory.specs.Tables.{Reads}
 use Rattle.theory.specs.Graphs.{Edge, Graph, Along, circle, newPoints, circles, startPoints, startGraph}
+pub use Rattle.theory.specs.Graphs.{reducedLength, oneIfAny, nonEmptyWords}
 use Rattle.theory.proofs.WordLaws.{byTest, member-listed}
 use Rattle.theory.proofs.ReadLaws.{Steps, member-subgroup}
 use Rattle.theory.proofs.TableLaws.{length-upTo}
@@ -37,19 +38,6 @@ use Rattle.theory.proofs.CircleLaws.{
 }
 
 -- ── Counts ──
-
-unfoldable pub reducedLength : List (List ℕ) → ℕ
-reducedLength [] = zero
-reducedLength (w ∷ ws) = length (reduced w) + reducedLength ws
-
--- 1 for a word with letters, 0 for the empty word
-abbrev pub oneIfAny : List ℕ → ℕ
-oneIfAny [] = 0
-oneIfAny (y ∷ w) = 1
-
-unfoldable pub nonEmptyWords : List (List ℕ) → ℕ
-nonEmptyWords [] = zero
-nonEmptyWords (w ∷ ws) = oneIfAny (reduced w) + nonEmptyWords ws
 
 unfoldable pub writtenLength : List (List ℕ) → ℕ
 writtenLength [] = zero

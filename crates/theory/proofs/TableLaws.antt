@@ -17,13 +17,10 @@ use lib.ListN.{length, getD, length-append, List·getD-append}
 use lib.Seq.{getD-at}
 use borrow.Author.Tests.{ltb-true, lt-ltb}
 use Rattle.theory.specs.Letters.{upTo, usual}
+pub use Rattle.theory.specs.Letters.{StandsIn}
 use Rattle.theory.specs.Tables.{absent, Cells, cell}
 use Rattle.theory.proofs.WordLaws.{byTest}
 use Rattle.theory.proofs.RefusalLaws.{and-true}
-
--- y stands at some place of ys
-abbrev pub StandsIn : List ℕ → ℕ → Type 0
-StandsIn ys y = (i : ℕ) × (i < length ys) × (getD ys i 0 ≡ y)
 
 abbrev pub Bounded : Cells → ℕ → List ℕ → Type 0
 Bounded c N ys = (v y : ℕ) → (c v y ≡ absent → ⊥) → (v < N) × StandsIn ys y

@@ -104,23 +104,6 @@ pub letters-end : (text : List ℕ) (i : ℕ) → length text ≤ i → lettersI
 unfolding lettersIn
 letters-end text i h = ap lettersIn (drop-of-length-le text h)
 
--- the written letters of some words
-abbrev pub writtenLetters : List (List ℕ) → ℕ
-writtenLetters [] = 0
-writtenLetters (w ∷ ws) = length w + writtenLetters ws
-
--- L counts the letters of the words
-pub letters-of-words : (text : List ℕ) → lettersIn text ≡ writtenLetters (wordsOf text)
-unfolding lettersIn wordsOf
-letters-of-words [] = refl
-letters-of-words (b ∷ bs) =
-    by-cases (ℕ-discrete b lineEnd) (λ e. rw (eq-eqb b lineEnd e) (letters-of-words bs ∙ sym (zero-add (writtenLetters (wordsOf bs)))))
-    (λ e. rw (ne-eqb b lineEnd e) (ap suc (letters-of-words bs) ∙ sym (more (letterOf b) (wordsOf bs))))
-  where
-    more : (y : ℕ) (ws : List (List ℕ)) → writtenLetters (onFirst y ws) ≡ suc (writtenLetters ws)
-    more y [] = unfold onFirst in refl
-    more y (w ∷ ws) = unfold onFirst in suc-add (length w) (writtenLetters ws)
-
 pub letters-le : (text : List ℕ) → lettersIn text ≤ length text
 unfolding lettersIn
 letters-le [] = omega arith

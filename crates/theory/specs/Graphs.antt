@@ -4,6 +4,7 @@
 --   edgeOf v y x       == the edge that letter y reads from v to x; a capital reads it from its target
 --   Along es v y x    <-> some edge of es lets y lead from v to x
 --   startGraph ws      == a base 0 and, for each word not empty after reduction, a circle at the base that reads it
+--   reducedLength ws   == S, their letters after reduction; nonEmptyWords ws == m, those that are not empty then
 -- Points are numbered from the base 0 along the reduced words in list order, edges stand in the order in which the words
 -- read them. Assumes nothing.
 use mathlib.Core.Bool.{Bool, cond}
@@ -61,3 +62,18 @@ startPoints (w ∷ ws) = newPoints (reduced w) + startPoints ws
 
 unfoldable pub startGraph : List (List ℕ) → Graph
 startGraph ws = record { base = 0; points = upTo (startPoints ws); edges = circles 1 ws }
+
+-- S, the letters of the words after reduction
+unfoldable pub reducedLength : List (List ℕ) → ℕ
+reducedLength [] = zero
+reducedLength (w ∷ ws) = length (reduced w) + reducedLength ws
+
+-- 1 for a word with letters, 0 for the empty word
+abbrev pub oneIfAny : List ℕ → ℕ
+oneIfAny [] = 0
+oneIfAny (y ∷ w) = 1
+
+-- m, the words that are not empty after reduction
+unfoldable pub nonEmptyWords : List (List ℕ) → ℕ
+nonEmptyWords [] = zero
+nonEmptyWords (w ∷ ws) = oneIfAny (reduced w) + nonEmptyWords ws

@@ -4,14 +4,16 @@
 --   letterOf b       == the number of the letter with byte b; 52 for a byte that is no letter
 --   isLetter b       == b is one of the 52 letter bytes
 --   lineEnd          == byte 10
+--   StandsIn, AllIn  <-> a letter, every letter of a word, is one of some letters
 --   usual n          == the letters of n generators in the usual order: 0 .. 2n − 1
 --   wordsOf text     == the words of a list text: runs of letters, each ended by a line end
 --   lettersIn text   == L, the number of letters of a list as written
 -- A text that is not a list has words too: what follows its last line end is its last word, and a byte that is no letter
 -- stands as letter 52. Refused texts are never read as words. Assumes nothing.
+use mathlib.Core.Path.{_≡_}
 use mathlib.Core.Bool.{Bool, cond}
 use mathlib.Core.List.{List, [], _∷_, _++_, map}
-use Prim.Native.Nat.{ℕ, zero, suc, _*_}
+use Prim.Native.Nat.{ℕ, zero, suc, _*_, _<_}
 use lib.Dec.{eqb, ltb}
 use lib.ListN.{length, getD, take, drop}
 
@@ -45,6 +47,15 @@ upTo (suc k) = upTo k ++ (k ∷ [])
 
 unfoldable pub usual : ℕ → List ℕ
 usual n = upTo (2 * n)
+
+-- letter y stands at some place of ys
+abbrev pub StandsIn : List ℕ → ℕ → Type 0
+StandsIn ys y = (i : ℕ) × (i < length ys) × (getD ys i 0 ≡ y)
+
+-- every letter of w stands in ys
+abbrev pub AllIn : List ℕ → List ℕ → Type 0
+AllIn ys [] = Unit {0}
+AllIn ys (y ∷ w) = StandsIn ys y × AllIn ys w
 
 -- the number of bytes before the first line end, or before the text's end
 unfoldable pub wordLength : List ℕ → ℕ

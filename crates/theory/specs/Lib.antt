@@ -7,4 +7,5 @@ pub mod Graphs
 pub mod Folds
 pub mod Basis
 pub mod Files
+pub mod Subgroups
 pub mod Examples

@@ -29,8 +29,12 @@ cell n N t v y = cond (ltb v N && ltb y (2 * n)) (getD t (v * (2 * n) + y) absen
 abbrev pub Leads : Cells → ℕ → ℕ → ℕ → Type 0
 Leads c v y x = (c v y ≡ x) × (x ≡ absent → ⊥)
 
+-- a graph as a relation: from a point, by a letter, to a point
+abbrev pub Steps : Type 1
+Steps = ℕ → ℕ → ℕ → Type 0
+
 -- the empty word leads from a point to itself; a letter and a word lead on from where the letter leads
-abbrev pub Reads : (ℕ → ℕ → ℕ → Type 0) → ℕ → List ℕ → ℕ → Type 0
+abbrev pub Reads : Steps → ℕ → List ℕ → ℕ → Type 0
 Reads E v [] x = v ≡ x
 Reads E v (y ∷ w) x = (u : ℕ) × E v y u × Reads E u w x
 

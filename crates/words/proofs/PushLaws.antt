@@ -18,6 +18,7 @@ use borrow.Author.Tests.{eq-eqb, ne-eqb, lt-ltb, le-ltb, eqb-true, ltb-true}
 use Rattle.theory.specs.Words.{inv, put, undoes, reducedBy, reduced, Reduced}
 use Rattle.theory.proofs.WordLaws.{byTest, letters, reduced-none, reduced-idem, reduced-nil, append-cong, snoc-gone, snoc-kept}
 use Rattle.theory.proofs.RefusalLaws.{and-true}
+use Rattle.theory.proofs.StartLaws.{reduced-shorter}
 use Rattle.words.specs.Reduction.{reducedCells, isGone, Pushed}
 
 gone-yes : (work : List ℕ) (top y : ℕ) → 0 < top → getD work (top - 1) 0 ≡ inv y → isGone work top y ≡ true
@@ -53,17 +54,6 @@ cells-as w work r k e h = rw (e, went)
     went : length w - length r ≡ k
     went = omega arith
 
--- a reduction is no longer than its word
-put-length : (y : ℕ) (w : List ℕ) → length (put undoes y w) ≤ suc (length w)
-unfolding put
-put-length y [] = omega arith
-put-length y (x ∷ w) = byTest (undoes y x) (λ e. rw e (omega arith)) (λ e. rw e (omega arith))
-
-pub reduced-length : (w : List ℕ) → length (reduced w) ≤ length w
-unfolding reducedBy
-reduced-length [] = omega arith
-reduced-length (y ∷ w) = omega (arith, put-length y (reduced w), reduced-length w)
-
 -- zeros, then one more
 zeros-more : (k : ℕ) (l : List ℕ) → replicate k 0 ++ (0 ∷ l) ≡ replicate (suc k) 0 ++ l
 zeros-more zero l = refl
@@ -75,7 +65,7 @@ unfolding reducedCells
 cleared w work h =
     ap (λ l. set (reduced w ++ replicate (length w - length (reduced w)) 0 ++ l) (length w) 0) (drop-cons work (length w) 0 h)
     ∙ set-at (reduced w ++ replicate (length w - length (reduced w)) 0) (getD work (length w) 0) (drop (suc (length w)) work) 0 (length w)
-    (length-append (reduced w) (replicate (length w - length (reduced w)) 0) ∙ (rw length-replicate (omega (arith, reduced-length w))))
+    (length-append (reduced w) (replicate (length w - length (reduced w)) 0) ∙ (rw length-replicate (omega (arith, reduced-shorter w))))
     ∙ append-assoc (reduced w) (replicate (length w - length (reduced w)) 0) (0 ∷ drop (suc (length w)) work)
     ∙ ap (λ l. reduced w ++ l) (zeros-more (length w - length (reduced w)) (drop (suc (length w)) work))
     ∙ sym (append-assoc (reduced w) (replicate (suc (length w - length (reduced w))) 0) (drop (suc (length w)) work))
@@ -132,7 +122,7 @@ module _ (w work : List ℕ) (y : ℕ) (room : length w < length work) where
           ap (λ l. set l (length s) 0)
           (cleared w work room ∙ ap (λ l. l ++ replicate (suc went) 0 ++ rest) e ∙ grouped)
           ∙ set-at s x (replicate (suc went) 0 ++ rest) 0 (length s) refl
-          ∙ sym (cells-more s (suc (suc went)) is (omega (arith, sizes, reduced-length w)) ∙ append-assoc s (replicate (suc (suc went)) 0) rest)
+          ∙ sym (cells-more s (suc (suc went)) is (omega (arith, sizes, reduced-shorter w)) ∙ append-assoc s (replicate (suc (suc went)) 0) rest)
         where
           grouped : (s ++ (x ∷ [])) ++ replicate (suc went) 0 ++ rest ≡ s ++ (x ∷ (replicate (suc went) 0 ++ rest))
           grouped = simp append-assoc
@@ -157,7 +147,7 @@ module _ (w work : List ℕ) (y : ℕ) (room : length w < length work) where
       after =
           ap (λ l. set l (length (reduced w)) y) (cleared w work room ∙ append-assoc (reduced w) (replicate (suc went) 0) rest)
           ∙ set-at (reduced w) 0 (replicate went 0 ++ rest) y (length (reduced w)) refl
-          ∙ sym (cells-more (reduced w ++ (y ∷ [])) went is (omega (arith, length-append (reduced w) (y ∷ []), reduced-length w)) ∙ grouped)
+          ∙ sym (cells-more (reduced w ++ (y ∷ [])) went is (omega (arith, length-append (reduced w) (y ∷ []), reduced-shorter w)) ∙ grouped)
         where
           grouped : (reduced w ++ (y ∷ [])) ++ replicate went 0 ++ rest ≡ reduced w ++ (y ∷ (replicate went 0 ++ rest))
           grouped = simp append-assoc

@@ -15,10 +15,11 @@ use Rattle.theory.specs.Words.{inv, reducedBy, reduced}
 use Rattle.theory.specs.Letters.{letterOf, wordLength, firstWord}
 use Rattle.theory.proofs.WordLaws.{byTest}
 use Rattle.theory.proofs.RefusalLaws.{and-true}
+use Rattle.theory.proofs.StartLaws.{reduced-shorter}
 use Rattle.theory.proofs.TextLaws.{length-firstWord, firstWord-at}
 use Rattle.words.specs.Reduction.{reducedCells, isGone, Pushed, ReducedInto}
 use Rattle.words.specs.declared.Reduced.{Reduced}
-use Rattle.words.proofs.PushLaws.{Ended, ended, reduced-length, more-gone, more-stays}
+use Rattle.words.proofs.PushLaws.{Ended, ended, more-gone, more-stays}
 
 -- `top` letters are left of w, and the cells hold them
 pub record Held (w work : List ℕ) (top : ℕ) (cells : List ℕ) : Type 0 where
@@ -99,7 +100,7 @@ pub record Head (part work : List ℕ) (read top i : ℕ) (cells : List ℕ) : T
 -- `top` never passes the letters read
 pub head-low : (part work : List ℕ) (read top i : ℕ) (cells : List ℕ) → Head part work read top i cells → top ≤ i
 head-low part work read top i cells h =
-    omega (arith, h .held .left, reduced-length (take i (firstWord part)), length-take-le i (firstWord part) (omega (arith, length-firstWord part, h .whole, h .inside)))
+    omega (arith, h .held .left, reduced-shorter (take i (firstWord part)), length-take-le i (firstWord part) (omega (arith, length-firstWord part, h .whole, h .inside)))
 
 pub head-first : (part work : List ℕ) (read : ℕ) → read ≡ wordLength part → wordLength part ≤ length work → Head part work read 0 0 work
 head-first part work read e h = record { whole = e; room = h; inside = omega arith; same = refl; held = held-first work }
