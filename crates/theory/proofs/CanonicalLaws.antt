@@ -18,6 +18,7 @@ use lib.ListN.{length, getD}
 use Rattle.theory.specs.Words.{inv}
 use Rattle.theory.specs.Letters.{usual}
 use Rattle.theory.specs.Tables.{absent, Cells, Leads, cell}
+pub use Rattle.theory.specs.Canonical.{LowestCell}
 use Rattle.theory.specs.Canonical.{
   rowOf,
   rowsBefore,
@@ -301,13 +302,6 @@ module _ (N : ℕ) (ys : List ℕ) (c : Cells) where
         ap (positionOf ys) (firstPlace-is (isFaulty N ys c) N (length ys) v i (first-of-lowest v i l))
 
 -- ── Document 01's tables ──
-
--- the cell of letter y at v is the lowest cell of a broken rule, by position in the table
-pub record LowestCell (n N : ℕ) (t : List ℕ) (v y : ℕ) : Type 0 where
-  pub point-in : v < N
-  pub letter-in : y < 2 * n
-  pub broken : Broken N (usual n) (cell n N t) v y
-  pub none-below : (u z : ℕ) → z < 2 * n → u * (2 * n) + z < v * (2 * n) + y → Broken N (usual n) (cell n N t) u z → ⊥
 
 module _ (n N : ℕ) (t : List ℕ) where
   -- in the usual order, the place of a letter is the letter

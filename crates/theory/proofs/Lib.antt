@@ -28,5 +28,6 @@ pub mod SameLaws
 pub mod FoldEnds
 pub mod EdgeCounts
 pub mod FoldCounts
-pub mod ExamplesHold
 pub mod Main
+pub mod CaseLaws
+pub mod ExamplesHold

@@ -15,7 +15,8 @@ use Prim.Native.Nat.{ℕ, zero, suc, _+_, _*_, _≤_, _<_, max}
 use lib.Dec.{eqb, ltb, leb}
 use lib.ListN.{length, getD, take}
 use Rattle.theory.specs.Words.{inv}
-use Rattle.theory.specs.Tables.{absent, Cells, Leads}
+use Rattle.theory.specs.Letters.{usual}
+use Rattle.theory.specs.Tables.{absent, Cells, cell, Leads}
 
 -- the cells of row v, in scan order
 unfoldable pub rowOf : Cells → List ℕ → ℕ → List ℕ
@@ -63,6 +64,13 @@ BrokenRow c v =
 -- place i of row v is a cell of a broken rule: the last two are placed at the first cell of the row
 abbrev pub Broken : ℕ → List ℕ → Cells → ℕ → ℕ → Type 0
 Broken N ys c v i = BrokenCell N ys c v i ⊎ ((i ≡ 0) × BrokenRow c v)
+
+-- the cell of letter y at v is the lowest cell of a broken rule, by position in the table
+pub record LowestCell (n N : ℕ) (t : List ℕ) (v y : ℕ) : Type 0 where
+  pub point-in : v < N
+  pub letter-in : y < 2 * n
+  pub broken : Broken N (usual n) (cell n N t) v y
+  pub none-below : (u z : ℕ) → z < 2 * n → u * (2 * n) + z < v * (2 * n) + y → Broken N (usual n) (cell n N t) u z → ⊥
 
 -- the number of cells that are not absent
 unfoldable pub present : List ℕ → ℕ

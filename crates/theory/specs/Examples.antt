@@ -2,8 +2,8 @@
 --   Case           == an alphabet, a list text, a table to hold it against, queries, products, and what is expected
 --   outcome c      == what the definitions compute for the case
 --   examples       == the cases marked P, the printed run, and a case for each refusal of a list
---   AsDocumented c <-> the definitions compute what is expected
--- The table of a case is given; that it is the list's is what the figures, the listed words and the queries show.
+--   Shown c f      <-> the given table is the list's, queries are members or not, and every complete folding has these counts
+--   AsDocumented c <-> the definitions compute what is expected, and what is claimed holds: a refusal is the first cause
 -- `proofs/ExamplesHold` proves the one statement `Every AsDocumented examples`. Assumes nothing.
 use mathlib.Core.Path.{_≡_}
 use mathlib.Core.Bool.{Bool, true, false, cond}
@@ -14,15 +14,16 @@ use Prim.Native.Char.{code}
 use Prim.Native.String.{String, len, charAt}
 use lib.IntN.{ℤ, pos, negsuc}
 use lib.ListN.{length, replicate}
-use Rattle.theory.specs.Words.{reduced, product}
+use Rattle.theory.specs.Words.{reduced, _≈_, product, AllNames, Member, Tidy}
 use Rattle.theory.specs.Letters.{byteOf, letterOf, lineEnd, usual, wordsOf}
-use Rattle.theory.specs.Refusals.{Refusal, textRefusal}
+use Rattle.theory.specs.Refusals.{Refusal, First, TextCause, textRefusal}
 use Rattle.theory.specs.Tables.{absent, Cells, cell, isAccepted}
 use Rattle.theory.specs.Canonical.{faultyCell}
-use Rattle.theory.specs.Graphs.{startGraph}
-use Rattle.theory.specs.Folds.{Run, textbook}
+use Rattle.theory.specs.Graphs.{Graph, startGraph}
+use Rattle.theory.specs.Folds.{CompleteFolding, Run, textbook}
 use Rattle.theory.specs.Basis.{Index, finite, infinite, all, edgesOf, basisOf, expressionOf, rankOf, indexOf, isNormal}
 use Rattle.theory.specs.Files.{tableFile}
+use Rattle.theory.specs.Subgroups.{TableOf}
 
 -- the bytes of a text from byte i on
 unfoldable pub bytesFrom : String → ℕ → ℕ → List ℕ
@@ -75,6 +76,8 @@ pub record Case : Type 0 where
   pub table : List ℕ
   pub queries : List String
   pub products : List (List ℤ)
+  -- for each basis word a product of listed words that reduces to it
+  pub generated : List (List ℤ)
   pub expected : Outcome
 
 -- the expression of a query, or none for a word outside
@@ -113,8 +116,36 @@ outcomeFor e (some r) = refused (r .number) (r .place)
 unfoldable pub outcome : Case → Outcome
 outcome e = outcomeFor e (textRefusal (e .n) true (e .text))
 
+-- ks is the one product of words of the basis b, none beside its own inverse, that reduces to q
+pub record Expressed (b : List (List ℕ)) (q : List ℕ) (ks : List ℤ) : Type 0 where
+  pub names : AllNames (length b) ks
+  pub tidy : Tidy ks
+  pub reduces : product b ks ≈ q
+  pub only : (js : List ℤ) → AllNames (length b) js → Tidy js → product b js ≈ q → js ≡ ks
+
+-- a query is answered by its expression if it is a member, by none if it is not
+abbrev pub Answered : List (List ℕ) → List (List ℕ) → List ℕ → Option (List ℤ) → Type 0
+Answered ws b q none = Member ws q → ⊥
+Answered ws b q (some ks) = Member ws q × Expressed b q ks
+
+abbrev pub AllAnswered : List (List ℕ) → List (List ℕ) → List String → List (Option (List ℤ)) → Type 0
+AllAnswered ws b [] os = os ≡ []
+AllAnswered ws b (q ∷ qs) [] = ⊥
+AllAnswered ws b (q ∷ qs) (o ∷ os) = Answered ws b (word q) o × AllAnswered ws b qs os
+
+-- what is claimed of a list besides what computes: its table, its members, and every complete folding
+pub record Shown (e : Case) (f : Figures) : Type 0 where
+  pub table : TableOf (e .n) (e .points) (e .table) (wordsOf (e .text))
+  pub answers : AllAnswered (wordsOf (e .text)) (basisOf (cell (e .n) (e .points) (e .table)) (e .points) (usual (e .n))) (e .queries) (f .answers)
+  pub folds : (h : Graph) (m k : ℕ) → CompleteFolding (startGraph (wordsOf (e .text))) h m k → (m ≡ f .merges) × (k ≡ f .closes)
+  pub folding : (h : Graph) × CompleteFolding (startGraph (wordsOf (e .text))) h (f .merges) (f .closes)
+
+abbrev pub Claimed : Case → Outcome → Type 0
+Claimed e (refused k p) = First (TextCause (e .n) true (e .text)) k p
+Claimed e (accepted f) = Shown e f
+
 abbrev pub AsDocumented : Case → Type 0
-AsDocumented e = outcome e ≡ e .expected
+AsDocumented e = (outcome e ≡ e .expected) × Claimed e (e .expected)
 
 abbrev pub Every : (Case → Type 0) → List Case → Type 0
 Every P [] = Unit {0}
@@ -123,7 +154,7 @@ Every P (e ∷ es) = P e × Every P es
 -- a list that is refused: number and place
 abbrev pub turnedAway : ℕ → List ℕ → ℕ → ℕ → Case
 turnedAway n text k p =
-    record { n = n; text = text; points = 0; table = []; queries = []; products = []; expected = refused k p }
+    record { n = n; text = text; points = 0; table = []; queries = []; products = []; generated = []; expected = refused k p }
 
 -- the printed run: aaB, bAba, abA, aaaaaa
 abbrev pub printedRun : Case
@@ -135,6 +166,7 @@ printedRun =
       table = 1 ∷ 1 ∷ 0 ∷ 0 ∷ 0 ∷ 0 ∷ 1 ∷ 1 ∷ [];
       queries = "aba" ∷ "a" ∷ "aA" ∷ "bAba" ∷ [];
       products = (negsuc 2 ∷ pos 1 ∷ pos 2 ∷ []) ∷ (pos 1 ∷ pos 2 ∷ negsuc 2 ∷ []) ∷ [];
+      generated = (negsuc 0 ∷ negsuc 2 ∷ pos 1 ∷ pos 2 ∷ []) ∷ (negsuc 2 ∷ pos 1 ∷ pos 2 ∷ []) ∷ (pos 3 ∷ []) ∷ [];
       expected =
           accepted
           (record {
@@ -172,6 +204,7 @@ emptyList =
       table = absent ∷ absent ∷ absent ∷ absent ∷ [];
       queries = "" ∷ "a" ∷ [];
       products = [];
+      generated = [];
       expected =
           accepted
           (record {
@@ -204,6 +237,7 @@ cancelledWord =
       table = absent ∷ absent ∷ absent ∷ absent ∷ [];
       queries = "" ∷ "a" ∷ [];
       products = [];
+      generated = [];
       expected =
           accepted
           (record {
@@ -236,6 +270,7 @@ twoAndThree =
       table = absent ∷ absent ∷ 0 ∷ 0 ∷ [];
       queries = "b" ∷ [];
       products = [];
+      generated = (negsuc 0 ∷ pos 2 ∷ []) ∷ [];
       expected =
           accepted
           (record {
@@ -268,6 +303,7 @@ twice =
       table = 1 ∷ absent ∷ absent ∷ 1 ∷ absent ∷ 0 ∷ 0 ∷ absent ∷ [];
       queries = "ab" ∷ [];
       products = [];
+      generated = (pos 1 ∷ []) ∷ [];
       expected =
           accepted
           (record {
@@ -300,6 +336,7 @@ unreducedQuery =
       table = 1 ∷ absent ∷ absent ∷ 1 ∷ absent ∷ 0 ∷ 0 ∷ absent ∷ [];
       queries = "aBbb" ∷ [];
       products = [];
+      generated = (pos 1 ∷ []) ∷ [];
       expected =
           accepted
           (record {
@@ -332,6 +369,7 @@ hairAtBase =
       table = 1 ∷ absent ∷ absent ∷ absent ∷ absent ∷ 0 ∷ 1 ∷ 1 ∷ [];
       queries = "abA" ∷ "b" ∷ [];
       products = [];
+      generated = (pos 1 ∷ []) ∷ [];
       expected =
           accepted
           (record {
@@ -364,6 +402,7 @@ cube =
       table = 1 ∷ 2 ∷ 2 ∷ 0 ∷ 0 ∷ 1 ∷ [];
       queries = "AAA" ∷ "aa" ∷ [];
       products = [];
+      generated = (pos 1 ∷ []) ∷ [];
       expected =
           accepted
           (record {
