@@ -54,7 +54,7 @@ pub count-ended : (text : List ℕ) (l : ℕ) (u : Bool) → l ≡ lettersIn tex
 count-ended text l u e g t = record { letters = e; words = omega (arith, e, letters-le text, words-count text, ap {B = ℕ} (λ b. cond b 1 0) (sym g ∙ t)) }
 
 -- the part of a text from a place on
-rest-of : (text : List ℕ) (at : ℕ) → take (length text - at) (drop at text) ≡ drop at text
+pub rest-of : (text : List ℕ) (at : ℕ) → take (length text - at) (drop at text) ≡ drop at text
 rest-of text at = take-all (length text - at) (drop at text) (rw length-drop (omega arith))
 
 pub next-inside : (text : List ℕ) (at read : ℕ) → read ≡ wordLength (take (length text - at) (drop at text)) → at + read < length text → at + read + 1 ≡ nextStart text at
@@ -69,6 +69,11 @@ next-last text at read e h = omega (arith, e ∙ ap wordLength (rest-of text at)
 pub next-fits : (text : List ℕ) (at read : ℕ) → at ≤ length text → read ≡ wordLength (take (length text - at) (drop at text)) → at + read ≤ length text
 next-fits text at read h e =
     omega (arith, e ∙ ap wordLength (rest-of text at), wordLength-le (drop at text), length-drop at text)
+
+-- the walk goes on
+pub next-further : (text : List ℕ) (at next : ℕ) → at < length text → next ≡ nextStart text at → length text - next < length text - at
+unfolding nextStart
+next-further text at next h e = omega arith
 
 -- ── The shorter list ──
 

@@ -137,3 +137,20 @@ words-count (b ∷ (d ∷ bs)) =
   where
     some-word : 0 < length (wordsOf (d ∷ bs))
     some-word = rw (words-walk (d ∷ bs) (omega arith)) (omega arith)
+
+-- the letters of a word are letters of its text
+pub word-letters : (text : List ℕ) → wordLength text ≤ lettersIn text
+unfolding wordLength lettersIn
+word-letters [] = omega arith
+word-letters (b ∷ bs) =
+    by-cases (ℕ-discrete b lineEnd) (λ e. rw (eq-eqb b lineEnd e) (omega arith))
+    (λ e. rw (ne-eqb b lineEnd e) (omega (arith, word-letters bs)))
+
+-- and those of a part are letters of the whole
+pub letters-drop : (i : ℕ) (text : List ℕ) → lettersIn (drop i text) ≤ lettersIn text
+unfolding lettersIn
+letters-drop zero text = omega arith
+letters-drop (suc i) [] = omega arith
+letters-drop (suc i) (b ∷ bs) =
+    by-cases (ℕ-discrete b lineEnd) (λ e. rw (eq-eqb b lineEnd e) (letters-drop i bs))
+    (λ e. rw (ne-eqb b lineEnd e) (omega (arith, letters-drop i bs)))

@@ -8,8 +8,8 @@ use Prim.Native.Nat.{ℕ, zero, suc, _+_, _-_, _≤_, _<_}
 use native.Mathlib.Numerals.{add-one}
 use native.Mathlib.Omega.{arith}
 use lib.Dec.{eqb, ltb}
-use lib.ListN.{length, getD, take, drop, set, replicate, length-append}
-use lib.Seq.{take-suc, take-length, getD-at, length-take-le}
+use lib.ListN.{length, getD, take, drop, set, replicate, length-append, length-replicate}
+use lib.Seq.{take-suc, take-length, getD-at, length-take-le, drop-append-add, drop-drop}
 use borrow.Author.Tests.{eqb-true, eq-eqb, lt-ltb, ltb-true}
 use Rattle.theory.specs.Words.{inv, reducedBy, reduced}
 use Rattle.theory.specs.Letters.{letterOf, wordLength, firstWord}
@@ -136,3 +136,23 @@ head-done part work read top i cells h l =
       where
         ends : i ≡ length (firstWord part)
         ends = omega (arith, h .inside, l, h .whole, length-firstWord part)
+
+-- ── For callers ──
+
+-- cells behind those of the word are kept
+pub cells-kept : (w work : List ℕ) (k : ℕ) → length w ≤ k → drop k (reducedCells w work) ≡ drop k work
+unfolding reducedCells
+cells-kept w work k h =
+    ap (λ j. drop j (start ++ drop (length w) work)) split
+    ∙ drop-append-add start (drop (length w) work) (k - length w)
+    ∙ drop-drop (k - length w) (length w) work
+    ∙ ap (λ j. drop j work) whole
+  where
+    start : List ℕ
+    start = reduced w ++ replicate (length w - length (reduced w)) 0
+
+    split : k ≡ length start + (k - length w)
+    split = omega (arith, length-append (reduced w) (replicate (length w - length (reduced w)) 0), length-replicate {A = ℕ} (length w - length (reduced w)) 0, reduced-shorter w, h)
+
+    whole : length w + (k - length w) ≡ k
+    whole = omega arith

@@ -1,79 +1,65 @@
+-- `lists::start_size` meets its contract. The loop: the words before `at` are counted (`StartTurn`).
+-- Assumes nothing.
+use mathlib.Core.Path.{_∙_, refl}
+use Prim.Native.Nat.{_-_}
+use native.Mathlib.Omega.{arith}
+use lib.ListN.{length}
+use Rattle.lists.proofs.CountTurn.{next-further}
+use Rattle.lists.proofs.StartTurn.{Head, head-first, head-room, head-turn, head-small, head-done}
 use borrow.Author.Needs.{needs}
 use Rattle.lists.proofs.start_size.Statement.{statement}
 use Rattle.lists.proofs.start_size.Tie as tie
-use Rattle.lists.proofs.start_size.Reads as reads
-use Rattle.lists.proofs.start_size.Lts as lts
-use Rattle.cells.proofs.fill.Reads as fill-reads
-use Rattle.lists.proofs.letters_in.Reads as letters-in-reads
-use Rattle.lists.proofs.new_points.Reads as new-points-reads
-use Rattle.lists.proofs.next_start.Reads as next-start-reads
-use Rattle.words.proofs.reduce.Reads as reduce-reads
 
 abbrev Inv-loop : tie.InvT-loop
-Inv-loop list work₀ points₀ edges₀ at₀ work points edges at = ?
+Inv-loop list work₀ points₀ edges₀ at₀ work points edges at = Head list work₀ points edges at work
 
 abbrev μ-loop : tie.MeasureT-loop
-μ-loop list work₀ points₀ edges₀ at₀ work points edges at = ?
+μ-loop list work₀ points₀ edges₀ at₀ work points edges at = length list - at
 
--- src/lib.rt:206:5
 loop-holds : tie.Need-loop-holds Inv-loop μ-loop
-loop-holds c = search needs
+loop-holds c = head-first _ _ (c .before .before .pre)
 
--- src/lib.rt:207:34
 sub-reduce : tie.Need-sub-reduce Inv-loop μ-loop
 sub-reduce c = search needs
 
--- src/lib.rt:207:34
 part-reduce-start : tie.Need-part-reduce-start Inv-loop μ-loop
 part-reduce-start c = search needs
 
--- src/lib.rt:207:34
 part-reduce-end : tie.Need-part-reduce-end Inv-loop μ-loop
 part-reduce-end c = search needs
 
--- src/lib.rt:207:13
 reduce-requires : tie.Need-reduce-requires Inv-loop μ-loop
-reduce-requires c κs = search needs
+reduce-requires c κs = head-room (c .before .before .before .loop .inv)
 
--- src/lib.rt:208:19
 new-points-requires : tie.Need-new-points-requires Inv-loop μ-loop
 new-points-requires c κs = search needs
 
--- src/lib.rt:208:9
 add-points : tie.Need-add-points Inv-loop μ-loop
-add-points c = search needs
+add-points c = let s = head-small (head-turn (c .before .before .before .before .before .before .before .loop .inv) (c .before .before .before .before .before .before .loop-test .taken) (c .before .before .before .reduce .ensures) (c .before .before .before .reduce .kept .1 .0) (c .new-points .ensures) refl) in omega (arith, s .0, c .before .before .before .before .before .before .before .before .before .before .good .0 .0)
 
--- src/lib.rt:209:9
 add-edges : tie.Need-add-edges Inv-loop μ-loop
-add-edges c = search needs
+add-edges c = let s = head-small (head-turn (c .before .before .before .before .before .before .before .before .loop .inv) (c .before .before .before .before .before .before .before .loop-test .taken) (c .before .before .before .before .reduce .ensures) (c .before .before .before .before .reduce .kept .1 .0) (c .before .new-points .ensures) refl) in omega (arith, s .1, c .before .before .before .before .before .before .before .before .before .before .before .good .0 .0)
 
--- src/lib.rt:210:9
 next-start-requires : tie.Need-next-start-requires Inv-loop μ-loop
-next-start-requires c κs = search needs
+next-start-requires c κs = omega (arith, c .before .before .before .before .before .before .before .loop-test .taken)
 
--- src/lib.rt:206:5
 loop-less : tie.Need-loop-less Inv-loop μ-loop
-loop-less c = search needs
+loop-less c = next-further _ _ _ (c .before .before .before .before .before .before .before .before .loop-test .taken) (c .next-start .ensures)
 
--- src/lib.rt:206:5
 loop-again : tie.Need-loop-again Inv-loop μ-loop
-loop-again c = search needs
+loop-again c = head-turn (c .before .before .before .before .before .before .before .before .before .loop .inv) (c .before .before .before .before .before .before .before .before .loop-test .taken) (c .before .before .before .before .before .reduce .ensures) (c .before .before .before .before .before .reduce .kept .1 .0) (c .before .before .new-points .ensures) (c .next-start .ensures)
 
--- src/lib.rt:212:23
 letters-in-requires : tie.Need-letters-in-requires Inv-loop μ-loop
 letters-in-requires c κs = search needs
 
--- src/lib.rt:212:5
 fill-requires : tie.Need-fill-requires Inv-loop μ-loop
-fill-requires c κs = search needs
+fill-requires c κs = omega (arith, c .letters-in .ensures, c .before .before .before .loop .inv .room, c .before .before .before .loop .inv .same)
 
--- src/lib.rt:199:1
 same-length : tie.Need-same-length Inv-loop μ-loop
-same-length c = search needs
+same-length c = c .before .before .fill .kept .0 ∙ c .before .before .before .before .before .before .loop .inv .same
 
--- src/lib.rt:199:1
 returns : tie.Need-returns Inv-loop μ-loop
-returns c = search needs
+returns c = head-done (c .before .before .before .before .before .before .loop .inv) (c .before .before .before .before .before .loop-test .left) (c .before .before .before .letters-in .ensures) (c .before .before .fill .ensures)
 
 pub start-size-spec : {M : Type 1} → statement M
 start-size-spec =
