@@ -13,7 +13,7 @@ use Rattle.theory.specs.Tables.{cell, endOf, isAccepted}
 use Rattle.theory.specs.Canonical.{rowOf, rowsBefore, earlier, greatestMet, present, isIn, breaksCell, breaksRow, isFaulty, least, firstPlace, faultyCell}
 use Rattle.theory.specs.Graphs.{edgeOf, circle, circles, startPoints, startGraph, reducedLength, nonEmptyWords}
 use Rattle.theory.specs.Folds.{removeAt, renamed, renamedEdge, without, folded, isThere, otherEnd, firstFrom, firstTwo, counted, foldPair, foldAt, meeting, textbookFrom, textbook}
-use Rattle.theory.specs.Basis.{spotsOf, scan, firstMet, pathFrom, pathOf, isPathStep, isPathEdge, those, edgesOf, outsideEdges, basisWord, basisOf, numberIn, crossing, crossings, expressionOf, rankOf, all, indexOf, leadsBack, isNormal}
+use Rattle.theory.specs.Basis.{spotsOf, scan, firstMet, pathFrom, pathOf, isPathStep, isPathEdge, those, edgesOf, outsideEdges, basisWord, basisOf, numberIn, crossing, crossings, expressionOf, rankOf, all, indexOf, isFull, leadsBack, isNormal}
 use Rattle.theory.specs.Files.{groups, numberBytes, numbersBytes, cellNumber, tableFile}
 use Rattle.theory.specs.Examples.{bytesFrom, listText, figuresOf, AsDocumented, Every, turnedAway, bytes, examples, printedRun, emptyList, cancelledWord, twoAndThree, twice, unreducedQuery, hairAtBase, cube}
 use Rattle.theory.proofs.CaseLaws.{isNothing, sameWord, isNamed, allNamed, spans, ready, taken, away}
@@ -24,7 +24,7 @@ long : (k : ℕ) → 1048576 < k → AsDocumented (turnedAway 1 (replicate k 49)
 long k h = away 1 (replicate k 49) 2 0 (too-long 1 true (replicate k 49) (unfold isAlphabet in refl) (rw length-replicate h))
 
 pub examples-hold : Every AsDocumented examples
-unfolding inv put reducedBy inverseBy named product letterBytes placeIn byteOf letterOf isLetter upTo usual onFirst wordsOf isAlphabet byteRefusal bytesRefusal isUnended textRefusal cell endOf isAccepted rowOf rowsBefore earlier greatestMet present isIn breaksCell breaksRow isFaulty least firstPlace faultyCell edgeOf circle circles startPoints startGraph reducedLength nonEmptyWords removeAt renamed renamedEdge without folded isThere otherEnd firstFrom firstTwo counted foldPair foldAt meeting textbookFrom textbook spotsOf scan firstMet pathFrom pathOf isPathStep isPathEdge those edgesOf outsideEdges basisWord basisOf numberIn crossing crossings expressionOf rankOf all indexOf leadsBack isNormal groups numberBytes numbersBytes cellNumber tableFile bytesFrom listText figuresOf isNothing sameWord isNamed allNamed spans ready
+unfolding inv put reducedBy inverseBy named product letterBytes placeIn byteOf letterOf isLetter upTo usual onFirst wordsOf isAlphabet byteRefusal bytesRefusal isUnended textRefusal cell endOf isAccepted rowOf rowsBefore earlier greatestMet present isIn breaksCell breaksRow isFaulty least firstPlace faultyCell edgeOf circle circles startPoints startGraph reducedLength nonEmptyWords removeAt renamed renamedEdge without folded isThere otherEnd firstFrom firstTwo counted foldPair foldAt meeting textbookFrom textbook spotsOf scan firstMet pathFrom pathOf isPathStep isPathEdge those edgesOf outsideEdges basisWord basisOf numberIn crossing crossings expressionOf rankOf all indexOf isFull leadsBack isNormal groups numberBytes numbersBytes cellNumber tableFile bytesFrom listText figuresOf isNothing sameWord isNamed allNamed spans ready
 examples-hold = (
   taken printedRun _ refl refl refl refl,
   (

@@ -21,7 +21,7 @@ use Rattle.theory.specs.Tables.{absent, Cells, Leads, Reads, Accepts}
 use Rattle.theory.specs.Canonical.{Canonical}
 pub use Rattle.theory.specs.Subgroups.{SameCoset, Cosets, Endless}
 pub use Rattle.theory.specs.Letters.{AllIn}
-use Rattle.theory.specs.Basis.{Spot, spotsOf, scan, finite, infinite, all, indexOf}
+use Rattle.theory.specs.Basis.{Spot, spotsOf, scan, finite, infinite, all, indexOf, isFull}
 use Rattle.theory.proofs.WordLaws.{
   byTest,
   letters,
@@ -269,14 +269,14 @@ module _ (c : Cells) (N : ℕ) (ys : List ℕ) where
 
   -- the index is N where no cell is absent
   pub indexOf-full : Full c N ys → indexOf c N ys ≡ finite N
-  unfolding indexOf isHere
+  unfolding indexOf isFull isHere
   indexOf-full f =
       byTest (all isHere (scan N ys)) (λ t. rw t)
       (λ t. let g = gap-of-all t in absurd (f (g .0) (g .1) (g .2) (g .3) (g .4)))
 
   -- the index is infinite where some cell is absent
   pub indexOf-gap : Gap c N ys → indexOf c N ys ≡ infinite
-  unfolding indexOf isHere
+  unfolding indexOf isFull isHere
   indexOf-gap g =
       byTest (all isHere (scan N ys)) (λ t. absurd (full-of-all t (g .0) (g .1) (g .2) (g .3) (g .4))) (λ t. rw t)
 

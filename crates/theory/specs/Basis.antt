@@ -131,8 +131,12 @@ unfoldable pub all : {A : Type 0} → (A → Bool) → List A → Bool
 all f [] = true
 all f (a ∷ l) = f a && all f l
 
+-- no cell of the N rows is absent
+unfoldable pub isFull : Cells → ℕ → List ℕ → Bool
+isFull c N ys = all (λ s. not (eqb (c (s .point) (s .letter)) absent)) (scan N ys)
+
 unfoldable pub indexOf : Cells → ℕ → List ℕ → Index
-indexOf c N ys = cond (all (λ s. not (eqb (c (s .point) (s .letter)) absent)) (scan N ys)) (finite N) infinite
+indexOf c N ys = cond (isFull c N ys) (finite N) infinite
 
 -- every basis word leads from p back to p
 unfoldable pub leadsBack : Cells → ℕ → List ℕ → ℕ → Bool

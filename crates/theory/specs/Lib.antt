@@ -8,4 +8,5 @@ pub mod Folds
 pub mod Basis
 pub mod Files
 pub mod Subgroups
+pub mod TableRefusals
 pub mod Examples

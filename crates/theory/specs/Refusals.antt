@@ -3,6 +3,7 @@
 --   Cause1 .. Cause9 <-> that cause applies at place p, in the table's words
 --   turn k           == where number k stands in the order: by number, 3 and 4 as one
 --   First causes k p <-> cause k applies at p and no cause that stands before it applies anywhere
+--   Only, Join       == the causes of a function, number by number
 --   TextCause        == the causes of a list or query over n generators, by number
 --   textRefusal      == the first of them, computed (`proofs/RefusalLaws` proves it to be `First`)
 -- `lines` says whether line ends are allowed: true for a list, false for a query. Files have an order of their own (`Files`).
@@ -71,6 +72,14 @@ Before k p l q = (turn k < turn l) ⊎ ((turn k ≡ turn l) × (p < q))
 pub record First (causes : ℕ → ℕ → Type 0) (k p : ℕ) : Type 0 where
   pub applies : causes k p
   pub foremost : (l q : ℕ) → Before l q k p → causes l q → ⊥
+
+-- the causes of one number
+abbrev pub Only : ℕ → (ℕ → Type 0) → ℕ → ℕ → Type 0
+Only number cause k p = (k ≡ number) × cause p
+
+-- the causes of one kind and those of another
+abbrev pub Join : (ℕ → ℕ → Type 0) → (ℕ → ℕ → Type 0) → ℕ → ℕ → Type 0
+Join A B k p = A k p ⊎ B k p
 
 -- a cause that applies only where line ends are allowed
 abbrev pub InList : Bool → Type 0 → Type 0
