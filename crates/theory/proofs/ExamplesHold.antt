@@ -3,6 +3,7 @@
 -- Assumes nothing.
 use mathlib.Core.Path.{_≡_, refl}
 use mathlib.Core.Bool.{true}
+use mathlib.Core.Option.{none}
 use Prim.Native.Nat.{ℕ, _<_}
 use native.Mathlib.Omega.{arith}
 use lib.ListN.{replicate, length-replicate}
@@ -15,13 +16,18 @@ use Rattle.theory.specs.Graphs.{edgeOf, circle, circles, startPoints, st
 use Rattle.theory.specs.Folds.{removeAt, renamed, renamedEdge, without, folded, isThere, otherEnd, firstFrom, firstTwo, counted, foldPair, foldAt, meeting, textbookFrom, textbook}
 use Rattle.theory.specs.Basis.{spotsOf, scan, firstMet, pathFrom, pathOf, isPathStep, isPathEdge, those, edgesOf, outsideEdges, basisWord, basisOf, numberIn, crossing, crossings, expressionOf, rankOf, all, indexOf, isFull, leadsBack, isNormal}
 use Rattle.theory.specs.Files.{groups, numberBytes, numbersBytes, cellNumber, tableFile}
-use Rattle.theory.specs.Examples.{bytesFrom, listText, figuresOf, AsDocumented, Every, turnedAway, bytes, examples, printedRun, emptyList, cancelledWord, twoAndThree, twice, unreducedQuery, hairAtBase, cube}
+use Rattle.theory.specs.Examples.{bytesFrom, listText, figuresOf, AsDocumented, Every, turnedAway, bytes, word, examples, printedRun, emptyList, cancelledWord, twoAndThree, twice, unreducedQuery, hairAtBase, cube}
 use Rattle.theory.proofs.CaseLaws.{isNothing, sameWord, isNamed, allNamed, spans, ready, taken, away}
 use Rattle.theory.proofs.RefusalLaws.{too-long}
 
 -- more than 1,048,576 bytes
 long : (k : ℕ) → 1048576 < k → AsDocumented (turnedAway 1 (replicate k 49) 2 0)
 long k h = away 1 (replicate k 49) 2 0 (too-long 1 true (replicate k 49) (unfold isAlphabet in refl) (rw length-replicate h))
+
+-- a word that is not reduced may fail to read although it stands for a member: aBbb in the subgroup of ab
+pub not-the-other-way : endOf (cell 2 2 (unreducedQuery .table)) 0 (word "aBbb") ≡ none
+unfolding endOf cell bytesFrom letterOf placeIn letterBytes
+not-the-other-way = refl
 
 pub examples-hold : Every AsDocumented examples
 unfolding inv put reducedBy inverseBy named product letterBytes placeIn byteOf letterOf isLetter upTo usual onFirst wordsOf isAlphabet byteRefusal bytesRefusal isUnended textRefusal cell endOf isAccepted rowOf rowsBefore earlier greatestMet present isIn breaksCell breaksRow isFaulty least firstPlace faultyCell edgeOf circle circles startPoints startGraph reducedLength nonEmptyWords removeAt renamed renamedEdge without folded isThere otherEnd firstFrom firstTwo counted foldPair foldAt meeting textbookFrom textbook spotsOf scan firstMet pathFrom pathOf isPathStep isPathEdge those edgesOf outsideEdges basisWord basisOf numberIn crossing crossings expressionOf rankOf all indexOf isFull leadsBack isNormal groups numberBytes numbersBytes cellNumber tableFile bytesFrom listText figuresOf isNothing sameWord isNamed allNamed spans ready

@@ -51,6 +51,7 @@ use Rattle.theory.proofs.WordLaws.{
   inverse-cong,
   product-append,
   member-listed,
+  met-between,
 }
 use Rattle.theory.proofs.ReadLaws.{reads-append, reads-back, reads-reduced}
 use Rattle.theory.proofs.PlaceLaws.{passes-fails, fails}
@@ -83,16 +84,6 @@ use Rattle.theory.proofs.BasisLaws.{
   crossed-names,
   names-crossed,
 }
-
--- a word and its inverse go where two words meet
-met-between : (a : List ℕ) (y : ℕ) (b d : List ℕ) → (a ++ (y ∷ inverseOf b)) ++ (b ++ d) ≈ a ++ (y ∷ d)
-met-between a y b d =
-    ap reduced (grouped (inverseOf b))
-    ∙ gone-between letters (a ++ (y ∷ [])) (inverseOf b ++ b) d (inverse-left letters b)
-    ∙ ap reduced (append-assoc a (y ∷ []) d)
-  where
-    grouped : (e : List ℕ) → (a ++ (y ∷ e)) ++ (b ++ d) ≡ (a ++ (y ∷ [])) ++ ((e ++ b) ++ d)
-    grouped e = simp append-assoc
 
 -- what conjugates to nothing is nothing
 conjugate-gone : (a b : List ℕ) → a ++ (b ++ inverseOf a) ≈ [] → b ≈ []

@@ -46,6 +46,7 @@ use Rattle.theory.proofs.ReadLaws.{
   ends-loop,
   loop-ends,
   canonical-inverse,
+  loop-reads,
 }
 use Rattle.theory.proofs.TableLaws.{StandsIn, Bounded}
 use Rattle.theory.proofs.OneTable.{leads-here, point-reached, next-letter}
@@ -91,14 +92,7 @@ module _ {N : ℕ} {ys : List ℕ} {c : Cells} (k : Canonical N ys c) where
 
   -- where a word of a coset leads, each reduced word of the coset leads
   pub coset-reads : (u v : List ℕ) (z : ℕ) → Reads (Leads c) 0 v z → SameCoset c u v → Reads (Leads c) 0 (reduced u) z
-  coset-reads u v z r h =
-      subst (λ w. Reads (Leads c) 0 w z)
-      (append-cong letters (reduced (u ++ inverseOf v)) (u ++ inverseOf v) v v (reduced-idem letters (u ++ inverseOf v)) refl
-      ∙ ap reduced (append-assoc u (inverseOf v) v)
-      ∙ append-cong letters u u (inverseOf v ++ v) [] refl (inverse-left letters v ∙ sym (reduced-nil letters))
-      ∙ ap reduced (append-nil u))
-      (reads-reduced (canonical-inverse k) 0 (reduced (u ++ inverseOf v) ++ v) z
-      (reads-append (Leads c) 0 (reduced (u ++ inverseOf v)) 0 v z h r))
+  coset-reads u v z r h = loop-reads (canonical-inverse k) 0 u v z r h
 
   -- what follows two words of one coset may be taken away
   pub coset-cancel : (u v w : List ℕ) → SameCoset c (u ++ w) (v ++ w) → SameCoset c u v

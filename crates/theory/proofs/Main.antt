@@ -7,7 +7,7 @@ use mathlib.Core.Path.{_≡_, refl, sym, _∙_, subst}
 use mathlib.Core.Logic.{_↔_}
 use mathlib.Core.Bool.{Bool, true}
 use mathlib.Core.Option.{some, none}
-use mathlib.Core.List.{List, [], _∷_, _++_}
+use mathlib.Core.List.{List, [], _∷_, _++_, List·Memᴰ}
 use Prim.Native.Nat.{ℕ, suc, _+_, _-_, _*_, _≤_, _<_}
 use lib.IntN.{ℤ}
 use lib.ListN.{length, getD}
@@ -28,7 +28,7 @@ use Rattle.theory.specs.Tables.{absent, cell, Leads, Reads, Accepts, isA
 use Rattle.theory.specs.Canonical.{Canonical, Broken, faultyCell}
 use Rattle.theory.specs.Graphs.{Graph, Along, startGraph, reducedLength, nonEmptyWords}
 use Rattle.theory.specs.Folds.{Kind, FoldStep, Folding, CompleteFolding}
-use Rattle.theory.specs.Basis.{finite, infinite, basisOf, expressionOf, rankOf, indexOf}
+use Rattle.theory.specs.Basis.{finite, infinite, outsideEdges, basisWord, basisOf, expressionOf, rankOf, indexOf}
 use Rattle.theory.specs.Subgroups.{TableOf, Prefix, EndsAlike, SameGraph, SameNames, SameCoset, Cosets, Endless}
 use Rattle.theory.proofs.WordLaws.{letters, reduced-none, reduced-idem, reduced-append, inverse-right}
 use Rattle.theory.proofs.RefusalLaws.{refusal-first, first-refusal, refusal-none, none-refusal}
@@ -42,9 +42,9 @@ use Rattle.theory.proofs.CanonicalLaws.{
 }
 use Rattle.theory.proofs.OneTable.{onward-table, begun-reads, tables-equal, equal-tables}
 use Rattle.theory.proofs.IndexLaws.{index-finite, index-infinite}
-use Rattle.theory.proofs.PathLaws.{usual-setting}
+use Rattle.theory.proofs.PathLaws.{spot, usual-setting}
 use Rattle.theory.proofs.EdgeLaws.{basis-count}
-use Rattle.theory.proofs.BasisLaws.{basis-length}
+use Rattle.theory.proofs.BasisLaws.{loopBy, basisWord-plain, basis-length}
 use Rattle.theory.proofs.ExpressionLaws.{
   expression-empty,
   expression-tidy,
@@ -148,6 +148,11 @@ module _ {n N : ℕ} {t : List ℕ} {ws : List (List ℕ)} (T : TableOf n N t ws
   -- T-14: where it is infinite there are more cosets than any number
   pub infinite-index-is-endless : indexOf (cell n N t) N (usual n) ≡ infinite → Endless (cell n N t) (usual n)
   infinite-index-is-endless = index-infinite (T .canonical) (cell-bounded n N t)
+
+  -- B-03: path, letter and inverse path never cancel: a basis word is reduced as it stands
+  pub basis-words-as-they-stand : (v y : ℕ) → List·Memᴰ (spot v y) (outsideEdges (cell n N t) N (usual n))
+      → basisWord (cell n N t) N (usual n) (spot v y) ≡ loopBy (cell n N t) N (usual n) v y (cell n N t v y)
+  basis-words-as-they-stand = basisWord-plain (table-for .setting)
 
   -- B-05: a basis word has at most 2V − 1 letters
   pub basis-words-short : (k : ℕ) → k < length (basisOf (cell n N t) N (usual n))

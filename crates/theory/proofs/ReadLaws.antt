@@ -43,7 +43,7 @@ use Rattle.theory.proofs.WordLaws.{
   append-cong,
   inverse-cong,
   inverse-append,
-  gone-between,
+  met-between,
   inverse-left,
   inverse-right,
   member-empty,
@@ -105,10 +105,11 @@ module _ {E : Steps} (I : Inverse E) where
       reads-reduced b (u ++ inverseOf v) b
       (reads-append E b u x (inverseOf v) b r (subst (λ p. Reads E p (inverseOf v) b) (sym e) (reads-back b v z s)))
 
-  pub loop-ends : (b : ℕ) (u v : List ℕ) (x z : ℕ) → Reads E b u x → Reads E b v z → Reads E b (reduced (u ++ inverseOf v)) b → x ≡ z
-  loop-ends b u v x z r s l =
-      reads-one b (reduced u) x z (reads-reduced b u x r)
-      (subst (λ w. Reads E b w z) cancelled (reads-reduced b (reduced (u ++ inverseOf v) ++ v) z (reads-append E b (reduced (u ++ inverseOf v)) b v z l s)))
+  -- where such a loop is read, the first word, reduced, leads where the second does
+  pub loop-reads : (b : ℕ) (u v : List ℕ) (z : ℕ) → Reads E b v z → Reads E b (reduced (u ++ inverseOf v)) b → Reads E b (reduced u) z
+  loop-reads b u v z s l =
+      subst (λ w. Reads E b w z) cancelled
+      (reads-reduced b (reduced (u ++ inverseOf v) ++ v) z (reads-append E b (reduced (u ++ inverseOf v)) b v z l s))
     where
       cancelled : reduced (u ++ inverseOf v) ++ v ≈ u
       cancelled =
@@ -116,6 +117,9 @@ module _ {E : Steps} (I : Inverse E) where
           ∙ ap reduced (append-assoc u (inverseOf v) v)
           ∙ append-cong letters u u (inverseOf v ++ v) [] refl (inverse-left letters v ∙ sym (reduced-nil letters))
           ∙ ap reduced (append-nil u)
+
+  pub loop-ends : (b : ℕ) (u v : List ℕ) (x z : ℕ) → Reads E b u x → Reads E b v z → Reads E b (reduced (u ++ inverseOf v)) b → x ≡ z
+  loop-ends b u v x z r s l = reads-one b (reduced u) x z (reads-reduced b u x r) (loop-reads b u v z s l)
 
 -- a canonical table is an inverse deterministic graph
 pub canonical-inverse : {N : ℕ} {ys : List ℕ} {c : Cells} → Canonical N ys c → Inverse (Leads c)
@@ -181,17 +185,7 @@ module _ {E : Steps} {H : List ℕ → Type 0} (S : Subgroup H) (label : ℕ →
       subst (λ p. H (label v ++ inverseOf (label p))) r
       (S .cong [] (label v ++ inverseOf (label v)) (sym (inverse-right letters (label v))) (S .empty))
   labels-reads v (y ∷ w) x r =
-      S .cong _ _ joined (S .append _ _ (edge v y (r .0) (r .1)) (labels-reads (r .0) w x (r .2)))
-    where
-      -- label v, y, then the inverse label of u beside that label, w, the inverse label of x
-      joined : (label v ++ (y ∷ inverseOf (label (r .0)))) ++ (label (r .0) ++ (w ++ inverseOf (label x))) ≈ label v ++ (y ∷ (w ++ inverseOf (label x)))
-      joined =
-          ap reduced (grouped (label v) (inverseOf (label (r .0))) (label (r .0)) (w ++ inverseOf (label x)))
-          ∙ gone-between letters (label v ++ (y ∷ [])) (inverseOf (label (r .0)) ++ label (r .0)) (w ++ inverseOf (label x)) (inverse-left letters (label (r .0)))
-          ∙ ap reduced (append-assoc (label v) (y ∷ []) (w ++ inverseOf (label x)))
-        where
-          grouped : (a b c d : List ℕ) → (a ++ (y ∷ b)) ++ (c ++ d) ≡ (a ++ (y ∷ [])) ++ ((b ++ c) ++ d)
-          grouped a b c d = simp append-assoc
+      S .cong _ _ (met-between (label v) y (label (r .0)) (w ++ inverseOf (label x))) (S .append _ _ (edge v y (r .0) (r .1)) (labels-reads (r .0) w x (r .2)))
 
   -- with an empty label at 0, what reads from 0 to 0 is in H
   pub labels-sound : label 0 ≡ [] → (w : List ℕ) → Reads E 0 w 0 → H w

@@ -267,6 +267,16 @@ sameℤ-refl (negsuc k) = eq-eqb k k refl
 pub signs : Inverses negℤ opposite
 signs = record { twice = negℤ-negℤ; hit = λ k. sameℤ-refl (negℤ k); sound = λ j k e. sameℤ-true k (negℤ j) e }
 
+-- a word and its inverse go where two words meet
+pub met-between : (a : List ℕ) (y : ℕ) (b d : List ℕ) → (a ++ (y ∷ inverseOf b)) ++ (b ++ d) ≈ a ++ (y ∷ d)
+met-between a y b d =
+    ap reduced (grouped (inverseOf b))
+    ∙ gone-between letters (a ++ (y ∷ [])) (inverseOf b ++ b) d (inverse-left letters b)
+    ∙ ap reduced (append-assoc a (y ∷ []) d)
+  where
+    grouped : (e : List ℕ) → (a ++ (y ∷ e)) ++ (b ++ d) ≡ (a ++ (y ∷ [])) ++ ((e ++ b) ++ d)
+    grouped e = simp append-assoc
+
 -- ── Products ──
 
 -- the word of the inverse number is the inverse word
