@@ -24,23 +24,8 @@ use Rattle.theory.specs.Graphs.{Graph, startGraph, nonEmptyWords}
 use Rattle.theory.specs.Folds.{CompleteFolding}
 use Rattle.theory.specs.Basis.{all, basisOf, expressionOf, rankOf}
 use Rattle.theory.specs.Subgroups.{AcceptsExactly, TableOf}
-use Rattle.theory.specs.Examples.{
-  word,
-  Figures,
-  accepted,
-  refused,
-  Case,
-  answerOf,
-  figuresOf,
-  outcomeFor,
-  outcome,
-  Answered,
-  AllAnswered,
-  Shown,
-  Claimed,
-  AsDocumented,
-  turnedAway,
-}
+use Rattle.theory.specs.Examples.{word, Figures, accepted, refused, Case, answerOf, figuresOf, outcomeFor, outcome, Answered, AllAnswered, Shown, Claimed, AsDocumented}
+use Rattle.theory.specs.Cases.{turnedAway}
 use Rattle.theory.proofs.WordLaws.{byTest}
 use Rattle.theory.proofs.RefusalLaws.{and-true, refusal-first}
 use Rattle.theory.proofs.ReadLaws.{

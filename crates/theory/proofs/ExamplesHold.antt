@@ -13,10 +13,12 @@ use Rattle.theory.specs.Refusals.{isAlphabet, byteRefusal, bytesRefusal,
 use Rattle.theory.specs.Tables.{cell, endOf, isAccepted}
 use Rattle.theory.specs.Canonical.{rowOf, rowsBefore, earlier, greatestMet, present, isIn, breaksCell, breaksRow, isFaulty, least, firstPlace, faultyCell}
 use Rattle.theory.specs.Graphs.{edgeOf, circle, circles, startPoints, startGraph, reducedLength, nonEmptyWords}
-use Rattle.theory.specs.Folds.{removeAt, renamed, renamedEdge, without, folded, isThere, otherEnd, firstFrom, firstTwo, counted, foldPair, foldAt, meeting, textbookFrom, textbook}
+use Rattle.theory.specs.Folds.{removeAt, renamed, renamedEdge, without, folded}
+use Rattle.theory.specs.Textbook.{isThere, otherEnd, firstFrom, firstTwo, counted, foldPair, foldAt, meeting, textbookFrom, textbook}
 use Rattle.theory.specs.Basis.{spotsOf, scan, firstMet, pathFrom, pathOf, isPathStep, isPathEdge, those, edgesOf, outsideEdges, basisWord, basisOf, numberIn, crossing, crossings, expressionOf, rankOf, all, indexOf, isFull, leadsBack, isNormal}
 use Rattle.theory.specs.Files.{groups, numberBytes, numbersBytes, cellNumber, tableFile}
-use Rattle.theory.specs.Examples.{bytesFrom, listText, figuresOf, AsDocumented, Every, turnedAway, bytes, word, examples, printedRun, emptyList, cancelledWord, twoAndThree, twice, unreducedQuery, hairAtBase, cube}
+use Rattle.theory.specs.Examples.{bytesFrom, listText, figuresOf, AsDocumented, Every, bytes, word}
+use Rattle.theory.specs.Cases.{turnedAway, examples, printedRun, emptyList, cancelledWord, twoAndThree, twice, unreducedQuery, hairAtBase, cube}
 use Rattle.theory.proofs.CaseLaws.{isNothing, sameWord, isNamed, allNamed, spans, ready, taken, away}
 use Rattle.theory.proofs.RefusalLaws.{too-long}
 

@@ -17,22 +17,7 @@ use Rattle.theory.specs.Words.{SameSubgroup}
 use Rattle.theory.specs.Letters.{upTo}
 use Rattle.theory.specs.Tables.{Cells}
 use Rattle.theory.specs.Graphs.{Edge, Graph, startGraph}
-use Rattle.theory.specs.Folds.{
-  Kind,
-  merging,
-  closing,
-  Pair,
-  edgeAt,
-  folded,
-  kindOf,
-  FoldStep,
-  Folded,
-  Folding,
-  done,
-  merge,
-  close,
-  CompleteFolding,
-}
+use Rattle.theory.specs.Folds.{Kind, merging, closing, Pair, edgeAt, folded, kindOf, FoldStep, Folded, Folding, done, merge, close, CompleteFolding}
 use Rattle.theory.specs.Basis.{edgesOf, rankOf}
 use Rattle.theory.proofs.TableLaws.{length-upTo}
 use Rattle.theory.proofs.DistinctLaws.{upTo-mem, mem-upTo, distinct-upTo}

@@ -19,7 +19,8 @@ use Rattle.theory.specs.Tables.{Cells, Leads, Reads, Accepts}
 pub use Rattle.theory.specs.Subgroups.{Prefix, EndsAlike, PointOf, SameGraph, SameNames}
 use Rattle.theory.specs.Canonical.{Canonical}
 use Rattle.theory.specs.Graphs.{Edge, Graph, isLower, edgeOf, Along}
-use Rattle.theory.specs.Folds.{Pair, edgeAt, Folded, otherEnd}
+use Rattle.theory.specs.Folds.{Pair, edgeAt, Folded}
+use Rattle.theory.specs.Textbook.{otherEnd}
 use Rattle.theory.proofs.WordLaws.{byTest, letters, reduced-idem, reduced-append, inverse-cong, member-listed}
 use Rattle.theory.proofs.ReadLaws.{Steps, Inverse, reads-append, reads-split, reads-back, reads-reduced}
 use Rattle.theory.proofs.ReadLaws.{ends-loop, loop-ends, canonical-inverse}

@@ -8,7 +8,8 @@ use Prim.Native.Nat.{ℕ}
 use lib.Dec.{eqb}
 use borrow.Author.Tests.{eqb-true}
 use Rattle.theory.specs.Graphs.{Edge, isLower, generatorOf}
-use Rattle.theory.specs.Folds.{Pair, isThere, otherEnd}
+use Rattle.theory.specs.Folds.{Pair}
+use Rattle.theory.specs.Textbook.{isThere, otherEnd}
 use Rattle.theory.proofs.WordLaws.{byTest}
 use Rattle.theory.proofs.RefusalLaws.{and-true}
 

@@ -18,22 +18,8 @@ use borrow.Author.Tests.{eqb-true, eqb-false}
 use Rattle.theory.specs.Words.{inv, reduced, inverseOf, Member}
 use Rattle.theory.specs.Tables.{Reads}
 use Rattle.theory.specs.Graphs.{Edge, Graph, edgeOf, Along}
-use Rattle.theory.specs.Folds.{
-  Kind,
-  merging,
-  closing,
-  edgeAt,
-  removeAt,
-  renamed,
-  renamedEdge,
-  folded,
-  FoldStep,
-  Folding,
-  done,
-  merge,
-  close,
-  otherEnd,
-}
+use Rattle.theory.specs.Folds.{Kind, merging, closing, edgeAt, removeAt, renamed, renamedEdge, folded, FoldStep, Folding, done, merge, close}
+use Rattle.theory.specs.Textbook.{otherEnd}
 use Rattle.theory.proofs.WordLaws.{byTest}
 use Rattle.theory.proofs.ReadLaws.{Steps, member-subgroup}
 use Rattle.theory.proofs.DistinctLaws.{Distinct, mem-getD, getD-mem, mem-map, map-mem}

@@ -17,7 +17,7 @@ use native.Mathlib.Omega.{arith}
 use borrow.Author.Tests.{eq-eqb}
 use Rattle.theory.specs.Words.{inv}
 use Rattle.theory.specs.Graphs.{Edge, isLower, generatorOf, edgeOf, Along}
-use Rattle.theory.specs.Folds.{otherEnd}
+use Rattle.theory.specs.Textbook.{otherEnd}
 use Rattle.theory.proofs.WordLaws.{byTest}
 use Rattle.theory.proofs.ReadLaws.{Steps}
 use Rattle.theory.proofs.EdgeLaws.{lower-inverse, capital-inverse}
