@@ -8,6 +8,7 @@ pub mod TableLaws
 pub mod PlaceLaws
 pub mod RowLaws
 pub mod CanonicalLaws
+pub mod TableRefusalLaws
 pub mod HomeLaws
 pub mod OneTable
 pub mod IndexLaws
