@@ -57,11 +57,11 @@ none-some r e = let z : _≡_ {A = ℕ} 0 1 = cc in absurd (omega arith)
 
 -- ── Cause 1 ──
 
-alphabet-in : (n : ℕ) → isAlphabet n ≡ true → (1 ≤ n) × (n ≤ 26)
+pub alphabet-in : (n : ℕ) → isAlphabet n ≡ true → (1 ≤ n) × (n ≤ 26)
 unfolding isAlphabet
 alphabet-in n e = let h = and-true (leb 1 n) (leb n 26) e in (leb-true 1 n (h .0), leb-true n 26 (h .1))
 
-in-alphabet : (n : ℕ) → 1 ≤ n → n ≤ 26 → isAlphabet n ≡ true
+pub in-alphabet : (n : ℕ) → 1 ≤ n → n ≤ 26 → isAlphabet n ≡ true
 unfolding isAlphabet
 in-alphabet n a b = rw (le-leb 1 n a, le-leb n 26 b)
 
@@ -219,6 +219,12 @@ module _ (n : ℕ) (lines : Bool) (text : List ℕ) where
   split (suc (suc (suc (suc zero)))) p c f1 f2 f3 f5 = f3 (inr refl) (c .0, draws-4 n lines (getD text p 0) (c .1) (c .2))
   split (suc (suc (suc (suc (suc zero))))) p c f1 f2 f3 f5 = f5 refl (in-list lines (Cause5 text p) c)
   split (suc (suc (suc (suc (suc (suc l)))))) p c f1 f2 f3 f5 = absurd c
+
+  -- the causes of a text stand before those of tables and buffers
+  pub text-turn : (k p : ℕ) → TextCause n lines text k p → turn k < 6
+  text-turn k p c =
+      split k p c (λ i _. omega (arith, ap turn i)) (λ i _. omega (arith, ap turn i)) (λ i _. omega (arith, turn-34 k i))
+      (λ i _. omega (arith, ap turn i))
 
   -- a number that a byte draws is 3 or 4, and its cause applies there
   drawn : (k p : ℕ) → (k ≡ 0 → ⊥) → Draws n lines text k p → ((k ≡ 3) ⊎ (k ≡ 4)) × TextCause n lines text k p
