@@ -36,7 +36,7 @@ use Rattle.theory.proofs.RefusalLaws.{alphabet-in, refusal-none}
 use Rattle.theory.proofs.TextLaws.{length-firstWord}
 use Rattle.theory.proofs.StartLaws.{reduced-shorter}
 use Rattle.theory.proofs.CanonicalLaws.{table-none-canonical}
-use Rattle.theory.proofs.TableRefusalLaws.{lent-in}
+use Rattle.theory.proofs.TableRefusalLaws.{else-none, unrefused, no-cell, lent-in}
 use Rattle.cells.specs.Filled.{filled}
 use Rattle.refusals.specs.Given.{given, givenAs}
 use Rattle.refusals.specs.declared.Refusal.{Refusal}
@@ -154,18 +154,6 @@ module _ (k n N : ℕ) (t : List ℕ) (needed room : ℕ) where
       go (some q) z = absurd (let y : _≡_ {A = ℕ} 0 1 = cc in omega arith)
 
 -- ── Nothing is refused ──
-
-else-none : (a b : Option FirstCause) → orElse a b ≡ none → (a ≡ none) × (b ≡ none)
-else-none none b e = (refl, e)
-else-none (some r) b e = absurd (let z : _≡_ {A = ℕ} 0 1 = cc in omega arith)
-
-unrefused : (b : Bool) (k p : ℕ) → refusedIf b k p ≡ none → b ≡ false
-unrefused true k p e = absurd (let z : _≡_ {A = ℕ} 0 1 = cc in omega arith)
-unrefused false k p e = refl
-
-no-cell : (o : Option ℕ) → atCell o ≡ none → o ≡ none
-no-cell none e = refl
-no-cell (some p) e = absurd (let z : _≡_ {A = ℕ} 0 1 = cc in omega arith)
 
 pub alphabet-of : (n : ℕ) (query : List ℕ) → textRefusal n false query ≡ none → isAlphabet n ≡ true
 unfolding textRefusal

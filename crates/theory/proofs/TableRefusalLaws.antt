@@ -5,6 +5,7 @@
 --   join           : the causes of earlier turns decide; where none of them applies, those of later turns do
 --   only-at, only-if, only-either : the causes of one number, by their lowest place, by a test, of two tables
 --   text-decides   : the causes of a text
+--   else-none, unrefused, no-cell : the parts of a computed refusal that is none
 --   check-refusal-first, member-refusal-first, equal-refusal-first : the three functions, and `..-none` where none applies
 -- Assumes nothing.
 use mathlib.Core.Path.{_≡_, refl, sym, _∙_, ap, subst}
@@ -181,6 +182,20 @@ pub only-either : (k : ℕ) {P Q : ℕ → Type 0} (a b : Option ℕ) → Least 
 only-either k none none h g = only-at k none (λ p c. ⊎-elim (h p) (λ x. g p (x .1)) c)
 only-either k none (some q) h g = only-at k (some q) (inr (h, g .0), λ p l c. ⊎-elim (h p) (λ x. g .1 p l (x .1)) c)
 only-either k (some p) b h g = only-at k (some p) (inl (h .0), λ q l c. ⊎-elim (h .1 q l) (λ x. x .0 p (h .0)) c)
+
+-- ── Where nothing is computed ──
+
+pub else-none : (a b : Option Refusal) → orElse a b ≡ none → (a ≡ none) × (b ≡ none)
+else-none none b e = (refl, e)
+else-none (some r) b e = let z : _≡_ {A = ℕ} 0 1 = cc in absurd (omega arith)
+
+pub unrefused : (b : Bool) (k p : ℕ) → refusedIf b k p ≡ none → b ≡ false
+unrefused true k p e = let z : _≡_ {A = ℕ} 0 1 = cc in absurd (omega arith)
+unrefused false k p e = refl
+
+pub no-cell : (o : Option ℕ) → atCell o ≡ none → o ≡ none
+no-cell none e = refl
+no-cell (some p) e = let z : _≡_ {A = ℕ} 0 1 = cc in absurd (omega arith)
 
 -- ── The single causes ──
 

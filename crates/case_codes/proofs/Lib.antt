@@ -1,0 +1,2 @@
+-- The turns of `cells`.
+pub mod CellsTurn

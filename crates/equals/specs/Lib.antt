@@ -1,0 +1,2 @@
+pub mod Equals
+pub mod Faults

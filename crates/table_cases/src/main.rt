@@ -1,0 +1,203 @@
+// Runs stored cases through the functions on lent tables, and prints what each says, a line a case.
+// A case is sixteen bytes (op, n, V, cells, second n, V, cells, query, work, and seven that are passed over), then the
+// codes of its cells, of its second table's cells, and the bytes of its query.
+ghost use Prim.Native.Nat.{_≤_};
+ghost use lib.ListN.{length};
+use equals::Equality;
+use libc::STDOUT_FILENO;
+use members::Answer;
+use refusals::Refusal;
+use tables::Checked;
+use tables::Figures;
+use tables::Index;
+use tables::Subgroup;
+
+// Writes a number in decimal, with a space before it.
+fn print_number(x: u64) {
+    let mut digits = [0u8; 20];
+    let size = decimals::write_decimal(x, &mut digits);
+    io::write_all(STDOUT_FILENO, b" ");
+    if size <= 20 {
+        io::write_all(STDOUT_FILENO, &digits[..size]);
+    }
+}
+
+// Writes a refusal.
+fn print_refusal(r: Refusal) {
+    io::write_all(STDOUT_FILENO, b"refused");
+    print_number(r.number);
+    print_number(r.place);
+}
+
+// Writes the counts of a table.
+fn print_figures(f: Figures) {
+    io::write_all(STDOUT_FILENO, b"counts");
+    print_number(f.edges);
+    print_number(f.rank);
+    let index = f.index;
+    match index {
+        Index::Finite(k) => print_number(k),
+        Index::Infinite => {
+            io::write_all(STDOUT_FILENO, b" infinite");
+        }
+    }
+}
+
+// Writes lent cells.
+fn print_cells(cells: &[u32]) {
+    let mut i: usize = 0;
+    while i < cells.len() {
+        print_number(cells[i] as u64);
+        i += 1;
+    }
+}
+
+// A table is checked.
+fn run_check(s: Subgroup, table: &[u32]) {
+    match tables::check(s, table) {
+        Checked::Refused(r) => print_refusal(r),
+        Checked::Counted(f) => print_figures(f),
+    }
+}
+
+// A query is asked of a table; the work cells follow.
+fn run_member(s: Subgroup, table: &[u32], query: &[u8], work: &mut [u32]) {
+    match members::member(s, table, query, work) {
+        Answer::Refused(r) => print_refusal(r),
+        Answer::Inside => {
+            io::write_all(STDOUT_FILENO, b"inside");
+        }
+        Answer::Outside => {
+            io::write_all(STDOUT_FILENO, b"outside");
+        }
+    }
+    io::write_all(STDOUT_FILENO, b" work");
+    print_cells(work);
+}
+
+// Two tables are compared.
+fn run_equal(a: Subgroup, first: &[u32], b: Subgroup, second: &[u32]) {
+    match equals::equal(a, first, b, second) {
+        Equality::Refused(r) => print_refusal(r),
+        Equality::Yes => {
+            io::write_all(STDOUT_FILENO, b"equal");
+        }
+        Equality::No => {
+            io::write_all(STDOUT_FILENO, b"different");
+        }
+    }
+}
+
+// The numbers of a case.
+struct Case {
+    op: u8,
+    a: Subgroup,
+    b: Subgroup,
+    count: usize,
+    other: usize,
+    size: usize,
+}
+
+// What is asked of the tables of a case, once its cells are there.
+fn ask(c: Case, first: &[u32], second: &[u32], query: &[u8], work: &mut [u32]) {
+    let op = c.op;
+    match op {
+        1 => run_check(c.a, first),
+        2 => run_member(c.a, first, query, work),
+        _ => run_equal(c.a, first, c.b, second),
+    }
+}
+
+// One case, from its numbers and what follows its head. A case that does not fit its own numbers is passed over.
+fn run_case(c: Case, body: &[u8], first: &mut [u32], second: &mut [u32], work: &mut [u32]) {
+    let count = c.count;
+    let other = c.other;
+    let size = c.size;
+    if first.len() < count {
+        return;
+    }
+    if second.len() < other {
+        return;
+    }
+    if work.len() < size {
+        return;
+    }
+    let end = count + other;
+    if body.len() < end {
+        return;
+    }
+    case_codes::cells(&body[..count], first);
+    case_codes::cells(&body[count..end], second);
+    cells::fill(work, size, 777);
+    ask(
+        c,
+        &first[..count],
+        &second[..other],
+        &body[end..],
+        &mut work[..size],
+    );
+    io::write_all(STDOUT_FILENO, b"\n");
+}
+
+// Reads the next case and runs it; false where there is none.
+fn next_case(
+    head: &mut [u8],
+    body: &mut [u8],
+    first: &mut [u32],
+    second: &mut [u32],
+    work: &mut [u32],
+) -> bool {
+    if head.len() < 16 {
+        return false;
+    }
+    if io::read_full(0, head) < 16 {
+        return false;
+    }
+    let c = case_of(head);
+    let total = c.count + c.other + case_codes::size(head[7]);
+    if body.len() < total {
+        return false;
+    }
+    if io::read_full(0, &mut body[..total]) < total {
+        return false;
+    }
+    run_case(c, &body[..total], first, second, work);
+    true
+}
+
+// The numbers of a case, from its head.
+fn case_of(head: &[u8]) -> Case
+    requires { ⌜ 16 ≤ length (now head) ⌝ }
+    ensures sizes { λ r. ⌜ (r .count ≤ 255) × (r .other ≤ 255) ⌝ }
+{
+    Case {
+        op: head[0],
+        a: Subgroup {
+            n: case_codes::number(head[1]),
+            points: case_codes::number(head[2]),
+        },
+        b: Subgroup {
+            n: case_codes::number(head[4]),
+            points: case_codes::number(head[5]),
+        },
+        count: case_codes::size(head[3]),
+        other: case_codes::size(head[6]),
+        size: case_codes::size(head[8]),
+    }
+}
+
+fn main() {
+    let mut head = [0u8; 16];
+    let mut body = [0u8; 192];
+    let mut first = [0u32; 64];
+    let mut second = [0u32; 64];
+    let mut work = [0u32; 64];
+    let mut i: usize = 0;
+    while i < 65536 {
+        if next_case(&mut head, &mut body, &mut first, &mut second, &mut work) {
+            i += 1;
+        } else {
+            return;
+        }
+    }
+}
