@@ -1,0 +1,1 @@
+// No code yet: this crate is the folding engine on plain values. Read specs/ first.
