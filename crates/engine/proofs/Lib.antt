@@ -15,3 +15,4 @@ pub mod TakeLaws
 pub mod FoldLaws
 pub mod FoldedTable
 pub mod WorkLaws
+pub mod TableExists

@@ -22,9 +22,10 @@ use Rattle.theory.proofs.CanonicalLaws.{table-none-canonical}
 use Rattle.theory.proofs.TableRefusalLaws.{else-none, unrefused, no-cell, lent-in}
 use Rattle.refusals.specs.Given.{given, givenAs}
 use Rattle.refusals.specs.declared.Refusal.{Refusal}
-use Rattle.tables.specs.Walks.{walkedFor, walkedAs}
+use Rattle.tables.specs.Walks.{walkedAs}
 use Rattle.tables.specs.declared.Walked.{Walked}
 use Rattle.tables.specs.declared.Walked.the-variants.{Faulty, Sound}
+use Rattle.tables.proofs.WalkLaws.{walk-sound, walk-faulty}
 use Rattle.equals.specs.Equals.{sameCells, equalFor, equalAs}
 use Rattle.equals.specs.Faults.{orCell, firstFault, faultAs}
 use Rattle.equals.specs.declared.Equality.{Equality}
@@ -34,35 +35,19 @@ use Rattle.equals.specs.declared.Fault.the-variants.{At, Nowhere}
 
 -- ── The faulty cell ──
 
-walked-faulty : (n N : ℕ) (t : List ℕ) {w : Walked} {p : ℕ} → w ≡ walkedAs n N t → w ≡ Faulty p → faultyCell N (usual n) (cell n N t) ≡ some p
-unfolding walkedAs
-walked-faulty n N t {w} {p} e f = go (faultyCell N (usual n) (cell n N t)) (sym f ∙ e)
-  where
-    go : (o : Option ℕ) → Faulty p ≡ walkedFor n N t o → o ≡ some p
-    go none z = let y : _≡_ {A = ℕ} 0 1 = cc in absurd (omega arith)
-    go (some q) z = cc
-
-walked-sound : (n N : ℕ) (t : List ℕ) {w : Walked} {edges : ℕ} {full : Bool} → w ≡ walkedAs n N t → w ≡ Sound edges full → faultyCell N (usual n) (cell n N t) ≡ none
-unfolding walkedAs
-walked-sound n N t {w} {edges} {full} e f = go (faultyCell N (usual n) (cell n N t)) (sym f ∙ e)
-  where
-    go : (o : Option ℕ) → Sound edges full ≡ walkedFor n N t o → o ≡ none
-    go none z = refl
-    go (some q) z = let y : _≡_ {A = ℕ} 0 1 = cc in absurd (omega arith)
-
 module _ (n N : ℕ) (t : List ℕ) (m M : ℕ) (s : List ℕ) where
   pub fault-first : {w : Walked} {p : ℕ} → w ≡ walkedAs n N t → w ≡ Faulty p → At p ≡ faultAs (firstFault n N t m M s)
   unfolding firstFault
-  fault-first e f = rw (walked-faulty n N t e f)
+  fault-first e f = rw (walk-faulty n N t (sym e ∙ f))
 
   module _ {w v : Walked} {edges : ℕ} {full : Bool} (e : w ≡ walkedAs n N t) (f : w ≡ Sound edges full) (d : v ≡ walkedAs m M s) where
     pub fault-second : {p : ℕ} → v ≡ Faulty p → At p ≡ faultAs (firstFault n N t m M s)
     unfolding firstFault
-    fault-second g = rw (walked-sound n N t e f, walked-faulty m M s d g)
+    fault-second g = rw (walk-sound n N t (sym e ∙ f), walk-faulty m M s (sym d ∙ g))
 
     pub fault-nowhere : {other : ℕ} {whole : Bool} → v ≡ Sound other whole → Nowhere ≡ faultAs (firstFault n N t m M s)
     unfolding firstFault
-    fault-nowhere g = rw (walked-sound n N t e f, walked-sound m M s d g)
+    fault-nowhere g = rw (walk-sound n N t (sym e ∙ f), walk-sound m M s (sym d ∙ g))
 
 -- ── Nothing is refused ──
 

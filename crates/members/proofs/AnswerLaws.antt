@@ -46,9 +46,10 @@ use Rattle.words.proofs.ReduceTurn.{cells-kept}
 use Rattle.lists.specs.Scans.{scannedAs}
 use Rattle.lists.specs.declared.Scanned.{Scanned}
 use Rattle.lists.specs.declared.Scanned.the-variants.{Fine as ScannedFine, Refused as ScannedRefused}
-use Rattle.tables.specs.Walks.{walkedFor, walkedAs}
+use Rattle.tables.specs.Walks.{walkedAs}
 use Rattle.tables.specs.declared.Walked.{Walked}
 use Rattle.tables.specs.declared.Walked.the-variants.{Faulty, Sound}
+use Rattle.tables.proofs.WalkLaws.{walk-sound, walk-faulty}
 use Rattle.members.specs.Readings.{readAs, readingAs}
 use Rattle.members.specs.Members.{queryWord, answerFor, answerAs, cellsFor, cellsAfter, MemberOutcome}
 use Rattle.members.specs.Stages.{answerOf, foundAs, lateCause}
@@ -138,20 +139,12 @@ module _ (k n N : ℕ) (t : List ℕ) (needed room : ℕ) where
   late-enough e h = rw (e, le-ltb room needed h)
 
   pub late-faulty : {w : Walked} {p : ℕ} {r : Refusal} → (k ≡ 7 → ⊥) → w ≡ walkedAs n N t → w ≡ Faulty p → r ≡ givenAs 8 p → Cause r ≡ foundAs (lateCause k n N t needed room)
-  unfolding lateCause walkedAs cellRefusal
-  late-faulty {w} {p} {r} ne e f g = ap Cause g ∙ rw (ne-eqb k 7 ne) (go (faultyCell N (usual n) (cell n N t)) (sym f ∙ e))
-    where
-      go : (o : Option ℕ) → Faulty p ≡ walkedFor n N t o → Cause (givenAs 8 p) ≡ foundAs (atCell o)
-      go none z = absurd (let y : _≡_ {A = ℕ} 0 1 = cc in omega arith)
-      go (some q) z = let y : p ≡ q = cc in ap (λ i. Cause (givenAs 8 i)) y
+  unfolding lateCause cellRefusal
+  late-faulty ne e f g = ap Cause g ∙ rw (ne-eqb k 7 ne, walk-faulty n N t (sym e ∙ f))
 
   pub late-sound : {w : Walked} {edges : ℕ} {full : Bool} → (k ≡ 7 → ⊥) → w ≡ walkedAs n N t → w ≡ Sound edges full → Nothing ≡ foundAs (lateCause k n N t needed room)
-  unfolding lateCause walkedAs cellRefusal
-  late-sound {w} {edges} {full} ne e f = rw (ne-eqb k 7 ne) (go (faultyCell N (usual n) (cell n N t)) (sym f ∙ e))
-    where
-      go : (o : Option ℕ) → Sound edges full ≡ walkedFor n N t o → Nothing ≡ foundAs (atCell o)
-      go none z = refl
-      go (some q) z = absurd (let y : _≡_ {A = ℕ} 0 1 = cc in omega arith)
+  unfolding lateCause cellRefusal
+  late-sound ne e f = rw (ne-eqb k 7 ne, walk-sound n N t (sym e ∙ f))
 
 -- ── Nothing is refused ──
 
