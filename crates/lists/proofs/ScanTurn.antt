@@ -111,15 +111,3 @@ module _ (n : ℕ) (lines : Bool) (text : List ℕ) where
       go : (o : Option FirstCause) → Fine ≡ scannedAs o → scannedAs (lastOf lines text) ≡ scannedAs (orElse o (lastOf lines text))
       go none p = refl
       go (some f) p = cc
-
-pub alphabet-low : (n : ℕ) → n < 1 → isAlphabet n ≡ false
-unfolding isAlphabet
-alphabet-low n h = rw (lt-leb 1 n h)
-
-pub alphabet-in : (n : ℕ) → 1 ≤ n → n ≤ 26 → isAlphabet n ≡ true
-unfolding isAlphabet
-alphabet-in n h k = rw (le-leb 1 n h, le-leb n 26 k)
-
-pub alphabet-high : (n : ℕ) → 1 ≤ n → 26 < n → isAlphabet n ≡ false
-unfolding isAlphabet
-alphabet-high n h k = rw (le-leb 1 n h, lt-leb n 26 k)

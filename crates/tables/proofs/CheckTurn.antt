@@ -25,18 +25,6 @@ use Rattle.tables.specs.declared.Checked.the-variants.{Refused, Counted}
 use Rattle.tables.proofs.CellTurn.{sizes, product-small}
 use Rattle.tables.proofs.WalkLaws.{walk-sound, walk-faulty, walk-edges, walk-full, walk-connected, walk-small}
 
-pub alphabet-low : (n : ℕ) → n < 1 → isAlphabet n ≡ false
-unfolding isAlphabet
-alphabet-low n h = rw (lt-leb 1 n h)
-
-pub alphabet-high : (n : ℕ) → 1 ≤ n → 26 < n → isAlphabet n ≡ false
-unfolding isAlphabet
-alphabet-high n h k = rw (le-leb 1 n h, lt-leb n 26 k)
-
-pub alphabet-in : (n : ℕ) → 1 ≤ n → n ≤ 26 → isAlphabet n ≡ true
-unfolding isAlphabet
-alphabet-in n h k = rw (le-leb 1 n h, le-leb n 26 k)
-
 -- the index, from the points and whether no cell is absent
 index-as : (N : ℕ) (b : Bool) → indexFor N b ≡ indexAs (cond b (finite N) infinite)
 index-as N true = refl

@@ -15,7 +15,7 @@ use native.Mathlib.Decide.{ℕ-discrete, decLt}
 use native.Mathlib.Omega.{arith}
 use lib.Dec.{eqb, ltb, leb}
 use lib.ListN.{length, getD}
-use borrow.Author.Tests.{eq-eqb, ne-eqb, eqb-true, eqb-false, ltb-true, ltb-false, lt-ltb, le-ltb, leb-true, leb-false, le-leb, not-true}
+use borrow.Author.Tests.{eq-eqb, ne-eqb, eqb-true, eqb-false, ltb-true, ltb-false, lt-ltb, le-ltb, leb-true, leb-false, le-leb, lt-leb, not-true}
 use Rattle.theory.specs.Letters.{letterOf, isLetter, lineEnd}
 use Rattle.theory.specs.Refusals.{
   Refusal,
@@ -64,6 +64,15 @@ alphabet-in n e = let h = and-true (leb 1 n) (leb n 26) e in (leb-true 1 n (h .0
 pub in-alphabet : (n : ℕ) → 1 ≤ n → n ≤ 26 → isAlphabet n ≡ true
 unfolding isAlphabet
 in-alphabet n a b = rw (le-leb 1 n a, le-leb n 26 b)
+
+-- n is below 1, or above 26
+pub below-alphabet : (n : ℕ) → n < 1 → isAlphabet n ≡ false
+unfolding isAlphabet
+below-alphabet n h = rw (lt-leb 1 n h)
+
+pub above-alphabet : (n : ℕ) → 1 ≤ n → 26 < n → isAlphabet n ≡ false
+unfolding isAlphabet
+above-alphabet n h k = rw (le-leb 1 n h, lt-leb n 26 k)
 
 alphabet-out : (n : ℕ) → isAlphabet n ≡ false → Cause1 n 0
 alphabet-out n e = (refl, λ h. true≢false (sym (in-alphabet n (h .0) (h .1)) ∙ e))
