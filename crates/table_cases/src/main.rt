@@ -6,37 +6,25 @@ ghost use lib.ListN.{length};
 use equals::Equality;
 use libc::STDOUT_FILENO;
 use members::Answer;
-use refusals::Refusal;
 use tables::Checked;
 use tables::Figures;
 use tables::Index;
 use tables::Subgroup;
 
-// Writes a number in decimal, with a space before it.
-fn print_number(x: u64) {
-    let mut digits = [0u8; 20];
-    let size = decimals::write_decimal(x, &mut digits);
+// Writes a number, with a space before it.
+fn print_next(x: u64) {
     io::write_all(STDOUT_FILENO, b" ");
-    if size <= 20 {
-        io::write_all(STDOUT_FILENO, &digits[..size]);
-    }
-}
-
-// Writes a refusal.
-fn print_refusal(r: Refusal) {
-    io::write_all(STDOUT_FILENO, b"refused");
-    print_number(r.number);
-    print_number(r.place);
+    prints::number(x);
 }
 
 // Writes the counts of a table.
 fn print_figures(f: Figures) {
     io::write_all(STDOUT_FILENO, b"counts");
-    print_number(f.edges);
-    print_number(f.rank);
+    print_next(f.edges);
+    print_next(f.rank);
     let index = f.index;
     match index {
-        Index::Finite(k) => print_number(k),
+        Index::Finite(k) => print_next(k),
         Index::Infinite => {
             io::write_all(STDOUT_FILENO, b" infinite");
         }
@@ -47,7 +35,7 @@ fn print_figures(f: Figures) {
 fn print_cells(cells: &[u32]) {
     let mut i: usize = 0;
     while i < cells.len() {
-        print_number(cells[i] as u64);
+        print_next(cells[i] as u64);
         i += 1;
     }
 }
@@ -55,7 +43,7 @@ fn print_cells(cells: &[u32]) {
 // A table is checked.
 fn run_check(s: Subgroup, table: &[u32]) {
     match tables::check(s, table) {
-        Checked::Refused(r) => print_refusal(r),
+        Checked::Refused(r) => prints::refusal(r),
         Checked::Counted(f) => print_figures(f),
     }
 }
@@ -63,7 +51,7 @@ fn run_check(s: Subgroup, table: &[u32]) {
 // A query is asked of a table; the work cells follow.
 fn run_member(s: Subgroup, table: &[u32], query: &[u8], work: &mut [u32]) {
     match members::member(s, table, query, work) {
-        Answer::Refused(r) => print_refusal(r),
+        Answer::Refused(r) => prints::refusal(r),
         Answer::Inside => {
             io::write_all(STDOUT_FILENO, b"inside");
         }
@@ -78,7 +66,7 @@ fn run_member(s: Subgroup, table: &[u32], query: &[u8], work: &mut [u32]) {
 // Two tables are compared.
 fn run_equal(a: Subgroup, first: &[u32], b: Subgroup, second: &[u32]) {
     match equals::equal(a, first, b, second) {
-        Equality::Refused(r) => print_refusal(r),
+        Equality::Refused(r) => prints::refusal(r),
         Equality::Yes => {
             io::write_all(STDOUT_FILENO, b"equal");
         }

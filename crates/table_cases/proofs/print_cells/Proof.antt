@@ -16,17 +16,17 @@ abbrev μ-loop : tie.MeasureT-loop
 loop-holds : tie.Need-loop-holds Inv-loop μ-loop
 loop-holds c = search needs
 
-mul-print-number : tie.Need-mul-print-number Inv-loop μ-loop
-mul-print-number c = search needs
+mul-print-next : tie.Need-mul-print-next Inv-loop μ-loop
+mul-print-next c = search needs
 
-shared-slice-read-print-number : tie.Need-shared-slice-read-print-number Inv-loop μ-loop
-shared-slice-read-print-number c = search needs
+shared-slice-read-print-next : tie.Need-shared-slice-read-print-next Inv-loop μ-loop
+shared-slice-read-print-next c = search needs
 
-cast-print-number : tie.Need-cast-print-number Inv-loop μ-loop
-cast-print-number c = omega (arith, c .shared-slice-known2 .given (c .before .before .loop .i))
+cast-print-next : tie.Need-cast-print-next Inv-loop μ-loop
+cast-print-next c = omega (arith, c .shared-slice-known2 .given (c .before .before .loop .i))
 
-print-number-requires : tie.Need-print-number-requires Inv-loop μ-loop
-print-number-requires c κs = search needs
+print-next-requires : tie.Need-print-next-requires Inv-loop μ-loop
+print-next-requires c κs = search needs
 
 add-i : tie.Need-add-i Inv-loop μ-loop
 add-i c = search needs
@@ -47,10 +47,10 @@ print-cells-spec =
     Inv-loop
     μ-loop
     loop-holds
-    mul-print-number
-    shared-slice-read-print-number
-    cast-print-number
-    print-number-requires
+    mul-print-next
+    shared-slice-read-print-next
+    cast-print-next
+    print-next-requires
     add-i
     loop-less
     loop-again

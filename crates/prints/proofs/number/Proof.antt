@@ -1,11 +1,11 @@
--- `printer::print_number` meets its contract. The part that is written is as long as the digits.
+-- `prints::number` meets its contract. The part that is written is as long as the digits.
 -- Assumes nothing.
 use mathlib.Core.Path.{sym}
 use native.Mathlib.Omega.{arith}
 use lib.Seq.{length-take-le}
 use borrow.Author.Needs.{needs}
-use Rattle.printer.proofs.print_number.Statement.{statement}
-use Rattle.printer.proofs.print_number.Tie as tie
+use Rattle.prints.proofs.number.Statement.{statement}
+use Rattle.prints.proofs.number.Tie as tie
 
 slice-aggregate-write-decimal : tie.Need-slice-aggregate-write-decimal
 slice-aggregate-write-decimal c = search needs
@@ -28,8 +28,8 @@ returns c = search needs
 returns-2 : tie.Need-returns-2
 returns-2 c = search needs
 
-pub print-number-spec : {M : Type 1} → statement M
-print-number-spec =
+pub number-spec : {M : Type 1} → statement M
+number-spec =
     tie.close
     (tie.spec
     slice-aggregate-write-decimal
