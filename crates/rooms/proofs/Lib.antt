@@ -1,0 +1,3 @@
+-- Roots found and points united: laws, and the turns of `find`.
+pub mod FindLaws
+pub mod UniteLaws
