@@ -21,6 +21,11 @@ fn main() {
     let mut input = [0u8; 65536];
     let mut work = [0u32; 65536];
     let got = io::read_full(0, &mut input);
+    // A full room may hold only the start of the list: nothing is said of a part.
+    if 65536 <= got {
+        io::write_all(STDOUT_FILENO, b"not read: 65536 bytes or more\n");
+        return;
+    }
     let list = &input[..got];
     match lists::scan(26, list, true) {
         Scanned::Refused(r) => {
