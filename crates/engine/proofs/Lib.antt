@@ -15,4 +15,5 @@ pub mod TakeLaws
 pub mod FoldLaws
 pub mod FoldedTable
 pub mod WorkLaws
+pub mod HoldLaws
 pub mod TableExists
