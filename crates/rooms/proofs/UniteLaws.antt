@@ -221,6 +221,18 @@ module _ {old : List ℕ} {n room count p q r : ℕ} {after : List ℕ} (h : Rea
       kept : getD halves i 0 ≡ getD old i 0
       kept = behind-at n i halves old g (halves-kept .rest)
 
+  -- so whatever lies behind it is as it was
+  pub united-behind : (j : ℕ) → n ≤ j → room + count < j → drop j after ≡ drop j old
+  united-behind j g l =
+      by-cases (ℕ-discrete (rootOf f p) (rootOf f q)) (λ e. ap (drop j) (after-same e) ∙ kept)
+      (λ e. ap (drop j) (after-more e)
+      ∙ drop-set-lt j (set halves hi lo) (room + count) hi l
+      ∙ drop-set-lt j halves hi lo (omega (arith, hi-inside))
+      ∙ kept)
+    where
+      kept : drop j halves ≡ drop j old
+      kept = drop-behind n j halves old g (halves-kept .rest)
+
   -- the state that the cells hold is the model's
   pub united-state : (c : Cells) (m : ℕ)
       → stateOf c (forwardOf after n) (pendingOf (drop room after) r) m

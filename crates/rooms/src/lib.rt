@@ -7,6 +7,13 @@ ghost use Rattle.engine.specs.Work.{forwardOf};
 ghost use Rattle.rooms.specs.Finding.{Found};
 ghost use Rattle.rooms.specs.Uniting.{sent, United};
 
+// What the engine knows of lent cells: n generators, `rows` rows of room, `made` points made.
+pub struct Room {
+    pub n: usize,
+    pub rows: usize,
+    pub made: usize,
+}
+
 // Puts x into cell y of a row.
 pub fn put_cell(row: &mut [u32], y: usize, x: u32)
     requires { ⌜ y < length (now row) ⌝ }
