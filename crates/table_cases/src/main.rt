@@ -1,8 +1,11 @@
 // Runs stored cases through the functions on lent tables, and prints what each says, a line a case.
 // A case is sixteen bytes (op, n, V, cells, second n, V, cells, query, work, and seven that are passed over), then the
 // codes of its cells, of its second table's cells, and the bytes of its query.
+ghost use mathlib.Core.Path.{_≡_};
 ghost use Prim.Native.Nat.{_≤_};
 ghost use lib.ListN.{length};
+ghost use Rattle.members.specs.Members.{cellsAfter};
+ghost use Rattle.table_cases.specs.Cases.{caseOf, restOf, askedCells, CaseRun};
 use equals::Equality;
 use libc::STDOUT_FILENO;
 use members::Answer;
@@ -49,7 +52,9 @@ fn run_check(s: Subgroup, table: &[u32]) {
 }
 
 // A query is asked of a table; the work cells follow.
-fn run_member(s: Subgroup, table: &[u32], query: &[u8], work: &mut [u32]) {
+fn run_member(s: Subgroup, table: &[u32], query: &[u8], work: &mut [u32])
+    ensures cells { λ _. ⌜ now (work .exit) ≡ cellsAfter (s .n) (s .points) (now (table .entry)) (now (query .entry)) (now (work .entry)) ⌝ }
+{
     match members::member(s, table, query, work) {
         Answer::Refused(r) => prints::refusal(r),
         Answer::Inside => {
@@ -87,7 +92,9 @@ struct Case {
 }
 
 // What is asked of the tables of a case, once its cells are there.
-fn ask(c: Case, first: &[u32], second: &[u32], query: &[u8], work: &mut [u32]) {
+fn ask(c: Case, first: &[u32], second: &[u32], query: &[u8], work: &mut [u32])
+    ensures asked { λ _. ⌜ now (work .exit) ≡ askedCells c (now (first .entry)) (now (query .entry)) (now (work .entry)) ⌝ }
+{
     let op = c.op;
     match op {
         1 => run_check(c.a, first),
@@ -97,7 +104,9 @@ fn ask(c: Case, first: &[u32], second: &[u32], query: &[u8], work: &mut [u32]) {
 }
 
 // One case, from its numbers and what follows its head. A case that does not fit its own numbers is passed over.
-fn run_case(c: Case, body: &[u8], first: &mut [u32], second: &mut [u32], work: &mut [u32]) {
+fn run_case(c: Case, body: &[u8], first: &mut [u32], second: &mut [u32], work: &mut [u32])
+    ensures run { λ _. ⌜ CaseRun c (now (body .entry)) (now (first .entry)) (now (second .entry)) (now (work .entry)) (now (first .exit)) (now (second .exit)) (now (work .exit)) ⌝ }
+{
     let count = c.count;
     let other = c.other;
     let size = c.size;
@@ -127,36 +136,10 @@ fn run_case(c: Case, body: &[u8], first: &mut [u32], second: &mut [u32], work: &
     io::write_all(STDOUT_FILENO, b"\n");
 }
 
-// Reads the next case and runs it; false where there is none.
-fn next_case(
-    head: &mut [u8],
-    body: &mut [u8],
-    first: &mut [u32],
-    second: &mut [u32],
-    work: &mut [u32],
-) -> bool {
-    if head.len() < 16 {
-        return false;
-    }
-    if io::read_full(0, head) < 16 {
-        return false;
-    }
-    let c = case_of(head);
-    let total = c.count + c.other + case_codes::size(head[7]);
-    if body.len() < total {
-        return false;
-    }
-    if io::read_full(0, &mut body[..total]) < total {
-        return false;
-    }
-    run_case(c, &body[..total], first, second, work);
-    true
-}
-
 // The numbers of a case, from its head.
 fn case_of(head: &[u8]) -> Case
     requires { ⌜ 16 ≤ length (now head) ⌝ }
-    ensures sizes { λ r. ⌜ (r .count ≤ 255) × (r .other ≤ 255) ⌝ }
+    ensures numbers { λ r. ⌜ r ≡ caseOf (now (head .entry)) ⌝ }
 {
     Case {
         op: head[0],
@@ -174,6 +157,14 @@ fn case_of(head: &[u8]) -> Case
     }
 }
 
+// How many bytes follow a head.
+fn rest_of(head: &[u8]) -> usize
+    requires { ⌜ 16 ≤ length (now head) ⌝ }
+    ensures rest { λ r. ⌜ r ≡ restOf (now (head .entry)) ⌝ }
+{
+    case_codes::size(head[3]) + case_codes::size(head[6]) + case_codes::size(head[7])
+}
+
 fn main() {
     let mut head = [0u8; 16];
     let mut body = [0u8; 192];
@@ -182,10 +173,18 @@ fn main() {
     let mut work = [0u32; 64];
     let mut i: usize = 0;
     while i < 65536 {
-        if next_case(&mut head, &mut body, &mut first, &mut second, &mut work) {
-            i += 1;
-        } else {
+        if io::read_full(0, &mut head) < 16 {
             return;
         }
+        let rest = rest_of(&head);
+        if 192 < rest {
+            return;
+        }
+        if io::read_full(0, &mut body[..rest]) < rest {
+            return;
+        }
+        let c = case_of(&head);
+        run_case(c, &body[..rest], &mut first, &mut second, &mut work);
+        i += 1;
     }
 }

@@ -1,25 +1,26 @@
--- `table_cases::run_case` meets its contract. The parts that are lent are as long as the numbers say.
+-- `table_cases::run_case` meets its contract. The parts that are lent are as long as the numbers say; `CaseLaws` puts them together.
 -- Assumes nothing.
 use native.Mathlib.Omega.{arith}
 use lib.ListN.{length-take}
+use Rattle.table_cases.proofs.CaseLaws.{first-short, second-short, work-short, body-short, ran}
 use borrow.Author.Needs.{needs}
 use Rattle.table_cases.proofs.run_case.Statement.{statement}
 use Rattle.table_cases.proofs.run_case.Tie as tie
 
 returns : tie.Need-returns
-returns c = search needs
+returns c = first-short _ _ _ _ _ (c .if1 .taken)
 
 returns-2 : tie.Need-returns-2
-returns-2 c = search needs
+returns-2 c = second-short _ _ _ _ _ (c .before .if1 .left) (c .if2 .taken)
 
 returns-3 : tie.Need-returns-3
-returns-3 c = search needs
+returns-3 c = work-short _ _ _ _ _ (c .before .before .if1 .left) (c .before .if2 .left) (c .if3 .taken)
 
 add-end : tie.Need-add-end
 add-end c = search needs
 
 returns-4 : tie.Need-returns-4
-returns-4 c = search needs
+returns-4 c = body-short _ _ _ _ _ (c .before .before .before .if1 .left) (c .before .before .if2 .left) (c .before .if3 .left) (c .if4 .taken)
 
 slice-aggregate-cells : tie.Need-slice-aggregate-cells
 slice-aggregate-cells c = simp length-take (omega arith)
@@ -88,7 +89,7 @@ same-length-3 : tie.Need-same-length-3
 same-length-3 c = search needs
 
 returns-5 : tie.Need-returns-5
-returns-5 c = search needs
+returns-5 c = ran _ _ _ _ _ (c .before .before .before .before .before .before .before .before .before .before .before .before .before .before .before .before .before .before .before .before .before .before .before .before .before .before .if1 .left) (c .before .before .before .before .before .before .before .before .before .before .before .before .before .before .before .before .before .before .before .before .before .before .before .before .before .if2 .left) (c .before .before .before .before .before .before .before .before .before .before .before .before .before .before .before .before .before .before .before .before .before .before .before .before .if3 .left) (c .before .before .before .before .before .before .before .before .before .before .before .before .before .before .before .before .before .before .before .before .before .before .before .if4 .left) (c .before .before .before .before .before .before .before .before .before .before .before .before .before .before .before .before .before .before .before .before .cells .ensures) (c .before .before .before .before .before .before .before .before .before .before .before .before .before .before .before .cells2 .ensures) (c .before .before .before .before .before .before .before .before .before .before .before .fill .ensures) (c .before .before .before .before .ask .ensures)
 
 pub run-case-spec : {M : Type 1} → statement M
 run-case-spec =

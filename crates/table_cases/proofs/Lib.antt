@@ -1,0 +1,2 @@
+-- Laws of stored cases.
+pub mod CaseLaws
