@@ -1,0 +1,2 @@
+-- Edges in lent cells.
+pub mod LinkLaws
