@@ -1,0 +1,3 @@
+-- Draining on lent cells.
+pub mod ClearTurn
+pub mod DrainTurn
