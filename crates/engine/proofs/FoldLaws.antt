@@ -36,6 +36,7 @@ use Rattle.engine.proofs.TakeLaws.{
   Read,
   chained-settled,
   chained-made,
+  part-points,
 }
 
 -- ── One word ──
@@ -70,6 +71,11 @@ parts-read c w =
       first = p .reads;
       last = q .reads;
     }
+
+-- the middle needs no more new points than the word
+pub middle-points : (c : Cells) (w : List ℕ) → newPoints (inverseOf (behind c w .rest)) ≤ newPoints w
+middle-points c w =
+    part-points w (ahead-reads c 0 w .read) (inverseOf (behind c w .rest)) (inverseOf (backward c w)) (parts-read c w .joins)
 
 -- what a fold asks of a word: it is in H, and its letters are of ys
 pub record Fits (H : List ℕ → Type 0) (ys w : List ℕ) : Type 0 where

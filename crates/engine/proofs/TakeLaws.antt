@@ -208,26 +208,32 @@ pub record Read (c : Cells) (w u m v : List ℕ) (a b : ℕ) : Type 0 where
   pub first : Reads (Leads c) 0 u a
   pub last : Reads (Leads c) 0 v b
 
-part-points : (w u m v : List ℕ) → w ≡ u ++ (m ++ v) → newPoints m ≤ newPoints w
+-- a part of a word needs no more new points
+pub part-points : (w u m v : List ℕ) → w ≡ u ++ (m ++ v) → newPoints m ≤ newPoints w
 part-points w u m v e = omega (arith, ap length e ∙ length-append u (m ++ v), length-append m v)
 
 module _ {H : List ℕ → Type 0} (S : Subgroup H) {ys : List ℕ} (closed : (z : ℕ) → StandsIn ys z → StandsIn ys (inv z)) where
+  -- the middle of a word of H may be chained
+  pub stage-chainable : {label : ℕ → List ℕ} {s : State} → Stage H label ys [] s → (w u m v : List ℕ) (a b : ℕ)
+      → Read (s .cells) w u m v a b → Reduced w → AllIn ys w → H w → s .made + newPoints w ≤ absent → Chainable H label ys s a m b
+  stage-chainable g w u m v a b p reduces all member room =
+      record {
+        stage = g;
+        from = read-made S g 0 u a (g .some) (p .first);
+        to = read-made S g 0 v b (g .some) (p .last);
+        from-live = read-live S g 0 u a (inl (base-root g)) (p .first);
+        to-live = read-live S g 0 v b (inl (base-root g)) (p .last);
+        letters = all-left ys m (inverseOf v) (all-right ys u (m ++ inverseOf v) (subst (AllIn ys) (p .joins) all));
+        reduces = reduced-left m (inverseOf v) (reduced-right u (m ++ inverseOf v) (subst Reduced (p .joins) reduces));
+        label-in = middle-label S g u m v a b (p .first) (p .last) (subst H (p .joins) member);
+        room = omega (arith, part-points w u m (inverseOf v) (p .joins));
+      }
+
   module _ {us : List (List ℕ)} {s : State} (k : Settled H ys us s) (q w u m v : List ℕ) (a b : ℕ) (is : reduced q ≡ w)
       (p : Read (s .cells) w u m v a b) (reduces : Reduced w) (all : AllIn ys w) (member : H w)
       (room : s .made + newPoints w ≤ absent) where
     chainable : Chainable H (k .label) ys s a m b
-    chainable =
-        record {
-          stage = k .stage;
-          from = read-made S (k .stage) 0 u a (k .stage .some) (p .first);
-          to = read-made S (k .stage) 0 v b (k .stage .some) (p .last);
-          from-live = read-live S (k .stage) 0 u a (inl (base-root (k .stage))) (p .first);
-          to-live = read-live S (k .stage) 0 v b (inl (base-root (k .stage))) (p .last);
-          letters = all-left ys m (inverseOf v) (all-right ys u (m ++ inverseOf v) (subst (AllIn ys) (p .joins) all));
-          reduces = reduced-left m (inverseOf v) (reduced-right u (m ++ inverseOf v) (subst Reduced (p .joins) reduces));
-          label-in = middle-label S (k .stage) u m v a b (p .first) (p .last) (subst H (p .joins) member);
-          room = omega (arith, part-points w u m (inverseOf v) (p .joins));
-        }
+    chainable = stage-chainable (k .stage) w u m v a b p reduces all member room
 
     chain : Chains H ys s a m b (chained s a m b)
     chain = chained-chains S closed s a m b chainable

@@ -1,30 +1,52 @@
 -- Lent cells as a state (`specs/Rooms`).
---   left-first, left-then, left-as : doing nothing; one operation after another; the same state by another name
+--   left-first, left-then, left-after, left-as : doing nothing; one operation after another, also in a room that has grown;
+--                 the same state by another name
+--   plain-stage : any labels will do
 --   left-cells  : the table alone changes; left-united : two points are made one
---   left-lent   : what is lent stays lent; fit-left : and fit, where the stage and the room are kept
+--   lent-grown, left-lent : what is lent stays lent; fit-grown, fit-left : and fit, where the stage and the room are kept
 --   fit-usable  : what is fit is usable
 -- Assumes nothing.
 use mathlib.Core.Path.{_≡_, refl, sym, _∙_, ap, subst, fun-ext}
-use mathlib.Core.List.{List}
+use mathlib.Core.List.{List, []}
 use Prim.Native.Nat.{ℕ, _+_, _*_, _≤_, _<_}
 use native.Mathlib.Omega.{arith}
 use lib.ListN.{length, drop}
 use Rattle.theory.specs.Tables.{Cells, cell}
 use Rattle.theory.proofs.ReadLaws.{Subgroup}
 use Rattle.engine.specs.Engine.{State, stateOf, withCells, united}
-use Rattle.engine.specs.Stages.{Roomy}
+use Rattle.engine.specs.Stages.{Stage, Roomy}
 use Rattle.engine.specs.Work.{forwardOf, pendingOf, Holds}
 use Rattle.engine.proofs.WorkLaws.{pending-length}
 use Rattle.engine.proofs.StageLaws.{named-made}
 use Rattle.engine.proofs.DrainLaws.{pending-room}
 use Rattle.rooms.specs.declared.Room.{Room}
 use Rattle.rooms.specs.Uniting.{United}
-use Rattle.rooms.specs.Rooms.{stateIn, Lent, Usable, Plain, Fit, Left}
+use Rattle.rooms.specs.Rooms.{stateIn, withMade, Lent, Usable, Plain, Fit, Left}
 use Rattle.rooms.proofs.UniteLaws.{Ready, united-state, united-falls, united-length, united-behind}
 
 -- every word is in the subgroup of all words
 pub all-words : Subgroup (λ w. Unit {0})
 all-words = record { empty = tt; append = λ u v a b. tt; inverse = λ u a. tt; cong = λ u v e a. tt }
+
+-- any labels will do
+pub plain-stage : {label : ℕ → List ℕ} {ys hand : List ℕ} {s : State} → Stage (λ w. Unit {0}) label ys hand s
+    → Stage (λ w. Unit {0}) (λ v. []) ys hand s
+plain-stage g =
+    record {
+      turn = g .turn;
+      within = g .within;
+      lettered = g .lettered;
+      some = g .some;
+      fits = g .fits;
+      low = g .low;
+      idem = g .idem;
+      unmade = g .unmade;
+      live = g .live;
+      waiting = g .waiting;
+      base = refl;
+      labelled = λ v y x l. tt;
+      alike = λ v. tt;
+    }
 
 module _ {r : Room} {table work : List ℕ} (h : Lent r table work) where
   pub left-first : (count : ℕ) → Left r table work (stateIn r table work count) table work count
@@ -56,42 +78,60 @@ left-as e k =
       work-rest = k .work-rest;
     }
 
--- one operation after another
-pub left-then : {r : Room} {table work : List ℕ} {s : State} {mid way : List ℕ} {count : ℕ} {table′ work′ : List ℕ} {k : ℕ}
-    → Left r table work s mid way count → (f : State → State) → Left r mid way (f (stateIn r mid way count)) table′ work′ k
-    → Left r table work (f s) table′ work′ k
-left-then h f g =
+-- one operation after another, where the room may have grown
+pub left-after : {r q : Room} {table work : List ℕ} {s : State} {mid way : List ℕ} {count : ℕ} {table′ work′ : List ℕ} {k : ℕ}
+    → q .n ≡ r .n → q .rows ≡ r .rows → Left r table work s mid way count → (f : State → State)
+    → Left q mid way (f (stateIn r mid way count)) table′ work′ k → Left q table work (f s) table′ work′ k
+left-after {r} {q} {table} {work} {s} {mid} {way} en er h f g =
     record {
       state = g .state ∙ ap f (h .state);
       falls = g .falls;
       table-same = g .table-same ∙ h .table-same;
-      table-rest = g .table-rest ∙ h .table-rest;
+      table-rest = g .table-rest ∙ subst (λ j. drop j mid ≡ drop j table) (sym cells) (h .table-rest);
       work-same = g .work-same ∙ h .work-same;
-      work-rest = g .work-rest ∙ h .work-rest;
+      work-rest = g .work-rest ∙ subst (λ j. drop (2 * j) way ≡ drop (2 * j) work) (sym er) (h .work-rest);
     }
+  where
+    cells : q .rows * (2 * q .n) ≡ r .rows * (2 * r .n)
+    cells = ap (λ j. j * (2 * q .n)) er ∙ ap (λ j. r .rows * (2 * j)) en
 
-pub left-lent : {r : Room} {table work : List ℕ} {s : State} {table′ work′ : List ℕ} {count : ℕ} → Lent r table work
-    → Left r table work s table′ work′ count → Lent r table′ work′
-left-lent h k =
+pub left-then : {r : Room} {table work : List ℕ} {s : State} {mid way : List ℕ} {count : ℕ} {table′ work′ : List ℕ} {k : ℕ}
+    → Left r table work s mid way count → (f : State → State) → Left r mid way (f (stateIn r mid way count)) table′ work′ k
+    → Left r table work (f s) table′ work′ k
+left-then h f g = left-after refl refl h f g
+
+-- what is lent stays lent, where points have been made
+pub lent-grown : {r : Room} (m : ℕ) {table work : List ℕ} {s : State} {table′ work′ : List ℕ} {count : ℕ} → m ≤ r .rows
+    → Lent r table work → Left (withMade r m) table work s table′ work′ count → Lent (withMade r m) table′ work′
+lent-grown m l h k =
     record {
       some = h .some;
       most = h .most;
-      inside = h .inside;
+      inside = l;
       fits = h .fits;
       lent = omega (arith, h .lent, k .table-same);
       room = omega (arith, h .room, k .work-same);
       falls = k .falls;
     }
 
+pub left-lent : {r : Room} {table work : List ℕ} {s : State} {table′ work′ : List ℕ} {count : ℕ} → Lent r table work
+    → Left r table work s table′ work′ count → Lent r table′ work′
+left-lent {r} h k = lent-grown (r .made) (h .inside) h k
+
 -- where the stage and the room are kept
-pub fit-left : {r : Room} {table work hand : List ℕ} {s : State} {table′ work′ : List ℕ} {count : ℕ} → Lent r table work
-    → Left r table work s table′ work′ count → Plain r hand s → Roomy s → Fit r hand table′ work′ count
-fit-left {r} {hand = hand} h k p q =
+pub fit-grown : {r : Room} (m : ℕ) {table work hand : List ℕ} {s : State} {table′ work′ : List ℕ} {count : ℕ} → m ≤ r .rows
+    → Lent r table work → Left (withMade r m) table work s table′ work′ count → Plain r hand s → Roomy s
+    → Fit (withMade r m) hand table′ work′ count
+fit-grown {r} m {hand = hand} l h k p q =
     record {
-      lent = left-lent h k;
+      lent = lent-grown m l h k;
       stage = subst (Plain r hand) (sym (k .state)) p;
       roomy = subst Roomy (sym (k .state)) q;
     }
+
+pub fit-left : {r : Room} {table work hand : List ℕ} {s : State} {table′ work′ : List ℕ} {count : ℕ} → Lent r table work
+    → Left r table work s table′ work′ count → Plain r hand s → Roomy s → Fit r hand table′ work′ count
+fit-left {r} h k p q = fit-grown (r .made) (h .inside) h k p q
 
 pub fit-usable : {r : Room} {hand table work : List ℕ} {count : ℕ} → Fit r hand table work count → Usable r table work count
 fit-usable {r} {hand} {table} {work} {count} h =

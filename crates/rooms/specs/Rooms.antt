@@ -1,5 +1,6 @@
 -- Lent cells as a state of the engine, and what operations on them ask and leave. Cited by the crates above.
 --   stateIn r table work count == the state (engine, `Engine`) that lent cells hold, `count` points pending
+--   withMade r m          == the room with m points made
 --   Lent r table work     <-> room and cells are as large as they have to be, and forward falls
 --   Usable r table work count <-> so, and cells name points made, and one more point may become pending
 --   Plain r hand s        <-> s is a stage (engine, `Stages`), whatever the subgroup
@@ -21,6 +22,9 @@ use Rattle.rooms.specs.declared.Room.{Room}
 abbrev pub stateIn : Room → List ℕ → List ℕ → ℕ → State
 stateIn r table work count =
     stateOf (cell (r .n) (r .rows) table) (forwardOf work (r .made)) (pendingOf (drop (r .rows) work) count) (r .made)
+
+abbrev pub withMade : Room → ℕ → Room
+withMade r m = record { n = r .n; rows = r .rows; made = m }
 
 pub record Lent (r : Room) (table work : List ℕ) : Type 0 where
   pub some : 1 ≤ r .n
