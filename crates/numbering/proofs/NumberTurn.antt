@@ -27,7 +27,7 @@ use Rattle.engine.proofs.HoldLaws.{holds-first, holds-then}
 use Rattle.engine.proofs.NumberLaws.{named-none, named-met, named-new}
 use Rattle.numbering.specs.Numbered.{Roomed, NumberedIn}
 use Rattle.numbering.specs.Steps.{namingOf, Scanned, NamedIn}
-use Rattle.numbering.proofs.StepLaws.{holds-path, roomed-then, cell-point}
+use Rattle.numbering.proofs.StepLaws.{holds-path, roomed-then, point-as, cell-point}
 
 -- ── The naming that a table holds ──
 
@@ -105,7 +105,7 @@ module _ {n R : ℕ} {t : List ℕ} {met : ℕ} (s : Scanned n R t met) where
     -- a new point and the next name are of the room
     pub cell-asks : (u ≡ absent → ⊥) → met ≤ u → (u < R) × (met < R)
     cell-asks p g =
-        let l : u < R = subst (λ x. x < R) (sym is) (cell-point (s .roomed) v y (λ e. p (is ∙ e))) in (l, omega arith)
+        let l : u < R = point-as is (cell-point (s .roomed) v y) p in (l, omega arith)
 
     pub cell-new : {after : List ℕ} → (u ≡ absent → ⊥) → met ≤ u → Holds n R t (exchanged (cell n R t) u met) after
         → NamedIn n R t (namedAt (namingOf n R t met) v y) (met + 1) after

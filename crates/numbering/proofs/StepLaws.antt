@@ -1,22 +1,23 @@
 -- Steps on lent cells (`specs/Steps`): where a cell stands, and one step after another.
---   row-in, place-in, cell-read : a row and a cell lie in the table, and the cell is what stands there
+--   row-in, place-in, cell-read : a row and a cell lie in the table, and the cell is what stands there; put-held : a store there
 --   holds-path, holds-step : cells held are those of the table, so a step from there is one from what it holds
---   inside-then, inside-back : a place stays inside after a step; so is the cell back from a point
---   cell-point : by the inverse law a cell is absent or a point of the room
+--   inside-then, roomed-then : a place stays inside, and the room a room, after a step; inside-back : the cell back from a point
+--   cell-point : by the inverse law a cell is absent or a point of the room; point-as : so is a copy of one that is
 -- Assumes nothing.
 use mathlib.Core.Path.{_≡_, refl, sym, _∙_, ap, subst, fun-ext}
 use mathlib.Core.List.{List}
 use Prim.Native.Nat.{ℕ, _+_, _*_, _≤_, _<_}
 use native.Mathlib.Nat.{suc-mul, mul-le-mul-right}
 use native.Mathlib.Omega.{arith}
-use lib.ListN.{length, getD}
+use lib.ListN.{length, getD, set}
 use lib.Seq.{drop-cons}
 use Rattle.theory.specs.Words.{inv}
 use Rattle.theory.specs.Tables.{absent, Cells, cell}
 use Rattle.theory.proofs.TableLaws.{cell-in, cell-bounded}
 use Rattle.theory.proofs.OneTable.{leads-here}
+use Rattle.engine.specs.Cells.{put}
 use Rattle.engine.specs.Work.{Holds}
-use Rattle.engine.proofs.HoldLaws.{holds-then}
+use Rattle.engine.proofs.HoldLaws.{holds-first, holds-set, holds-then}
 use Rattle.numbering.specs.Numbered.{Inverse, Roomed}
 use Rattle.numbering.specs.Steps.{Inside, IsCell}
 
@@ -35,6 +36,11 @@ module _ {n R : ℕ} {t : List ℕ} {v y : ℕ} (i : Inside n R t v y) where
 
   pub cell-read : getD t (v * (2 * n) + y) 0 ≡ cell n R t v y
   cell-read = getD-any t (v * (2 * n) + y) 0 absent place-in ∙ sym (cell-in n R t v y (i .point) (i .letter))
+
+  -- a store there is a `put`
+  pub put-held : {after : List ℕ} (x : ℕ) → after ≡ set t (v * (2 * n) + y) x → Holds n R t (put (cell n R t) v y x) after
+  put-held x e =
+      subst (Holds n R t (put (cell n R t) v y x)) (sym e) (holds-set (holds-first n R t) v y x (i .point) (i .letter) (i .lent))
 
   -- another point of the room, by the inverse of the letter
   pub inside-back : {z : ℕ} (u : ℕ) → z ≡ inv y → u < R → Inside n R t u z
@@ -67,6 +73,10 @@ module _ {n R : ℕ} {old mid : List ℕ} {c : Cells} (h : Holds n R old c mid) 
       }
 
 -- ── Under the inverse law ──
+
+-- a copy of a cell
+pub point-as : {R u x : ℕ} → u ≡ x → IsCell R x → IsCell R u
+point-as {R} e h = subst (IsCell R) (sym e) h
 
 module _ {n R : ℕ} {t : List ℕ} (r : Roomed n R t) where
   pub roomed-inside : {v y : ℕ} → v < R → y < 2 * n → Inside n R t v y

@@ -18,8 +18,8 @@ use Rattle.engine.specs.Work.{Holds}
 use Rattle.engine.proofs.HoldLaws.{holds-first, holds-as}
 use Rattle.engine.proofs.TradeLaws.{trading-start, trading-turn, trading-end}
 use Rattle.numbering.specs.Numbered.{Roomed}
-use Rattle.numbering.specs.Steps.{IsCell, endsTraded, Tradable}
-use Rattle.numbering.proofs.StepLaws.{holds-step, inside-then, roomed-inside, cell-point}
+use Rattle.numbering.specs.Steps.{endsTraded, Tradable}
+use Rattle.numbering.proofs.StepLaws.{holds-step, inside-then, roomed-inside, point-as, cell-point}
 
 -- ── Mending a far end ──
 
@@ -90,8 +90,8 @@ module _ {n R : ℕ} {old : List ℕ} {k p y : ℕ} {t : List ℕ} (r : Roomed n
       record {
         first = inside-then (h .held) (roomed-inside r hk l);
         second = inside-then (h .held) (roomed-inside r hp l);
-        near = subst (IsCell R) (sym (h .held .cells k y ∙ trading-near (cell n R old) k p y)) (cell-point r k y);
-        far = subst (IsCell R) (sym (h .held .cells p y ∙ trading-far (cell n R old) k p y d)) (cell-point r p y);
+        near = point-as (h .held .cells k y ∙ trading-near (cell n R old) k p y) (cell-point r k y);
+        far = point-as (h .held .cells p y ∙ trading-far (cell n R old) k p y d) (cell-point r p y);
       }
 
   nk : k ≡ absent → ⊥

@@ -1,5 +1,6 @@
 -- `numbering::number_cell` meets its contract. The outcomes are those of `NumberTurn`.
 -- Assumes nothing.
+use native.Mathlib.Omega.{arith}
 use borrow.Author.Needs.{needs}
 use Rattle.numbering.proofs.NumberTurn.{cell-none, cell-met, cell-asks, cell-new}
 use Rattle.numbering.proofs.number_cell.Statement.{statement}
@@ -24,7 +25,7 @@ same-length-2 c = search needs
 returns-2 : tie.Need-returns-2
 returns-2 c =
     let read = c .before .before in
-    cell-met (read .before .before .before .pre .0) _ _ (read .cell-at .ensures) (c .before .if1 .left) (c .if2 .taken)
+    cell-met (read .before .before .before .pre .0) _ _ (read .cell-at .ensures) (c .before .if1 .left) (omega arith)
 
 cast-exchange : tie.Need-cast-exchange
 cast-exchange c = search needs
@@ -33,7 +34,7 @@ exchange-requires : tie.Need-exchange-requires
 exchange-requires c κs =
     let read = c .before .before .before in
     let s = read .before .before .before .pre .0 in
-    (s .roomed, cell-asks s _ _ (read .cell-at .ensures) (c .before .before .if1 .left) (c .before .if2 .left))
+    (s .roomed, cell-asks s _ _ (read .cell-at .ensures) (c .before .before .if1 .left) (omega arith))
 
 add-result : tie.Need-add-result
 add-result c = search needs
@@ -45,7 +46,7 @@ returns-3 : tie.Need-returns-3
 returns-3 c =
     let new = c .before .before .before .before in
     let read = new .before .before in
-    cell-new (read .before .before .before .pre .0) _ _ (read .cell-at .ensures) (new .before .if1 .left) (new .if2 .left)
+    cell-new (read .before .before .before .pre .0) _ _ (read .cell-at .ensures) (new .before .if1 .left) (omega (arith, new .if2 .left))
     (c .before .before .exchange .ensures)
 
 pub number-cell-spec : {M : Type 1} → statement M

@@ -1,9 +1,7 @@
 -- `numbering::trade` meets its contract. The ends are traded, and the far ends mended (`TradeTurn`).
 -- Assumes nothing.
-use mathlib.Core.Path.{sym, subst}
 use borrow.Author.Needs.{needs}
-use Rattle.numbering.specs.Steps.{IsCell}
-use Rattle.numbering.proofs.StepLaws.{inside-then}
+use Rattle.numbering.proofs.StepLaws.{inside-then, point-as}
 use Rattle.numbering.proofs.TradeTurn.{traded}
 use Rattle.numbering.proofs.trade.Statement.{statement}
 use Rattle.numbering.proofs.trade.Tie as tie
@@ -22,7 +20,7 @@ mend-requires c κs =
     let ends = c .before .before .before in
     let first = ends .before .before .before .before in
     let s = first .before .before .before in
-    (inside-then (ends .trade-ends .ensures) (s .pre .first), subst (IsCell (s .args .room)) (sym (first .cell-at .ensures)) (s .pre .near))
+    (inside-then (ends .trade-ends .ensures) (s .pre .first), point-as (first .cell-at .ensures) (s .pre .near))
 
 mend-requires-2 : tie.Need-mend-requires-2
 mend-requires-2 c κs =
@@ -31,7 +29,7 @@ mend-requires-2 c κs =
     let second = ends .before .before in
     let s = second .before .before .before .before .before in (
       inside-then (near .mend .ensures) (inside-then (ends .trade-ends .ensures) (s .pre .first)),
-      subst (IsCell (s .args .room)) (sym (second .cell-at2 .ensures)) (s .pre .far),
+      point-as (second .cell-at2 .ensures) (s .pre .far),
     )
 
 same-length : tie.Need-same-length
