@@ -54,14 +54,15 @@ module _ {n R : ℕ} {t mid after : List ℕ} (k p y a b : ℕ) where
       holds-step (subst (λ x. Holds n R t (put (cell n R t) k y x) mid) e h) (λ c. put c p y (transposed k p a))
       (subst (λ x. Holds n R mid (put (cell n R mid) p y x) after) d g)
 
-  -- the ends traded, and then both far ends mended
-  pub traded : {far : List ℕ} → a ≡ cell n R t k y → b ≡ cell n R t p y → Holds n R t (endsTraded (cell n R t) k p y a b) mid
-      → Holds n R mid (mended (cell n R mid) k p a y p) far → Holds n R far (mended (cell n R far) k p b y k) after
-      → Holds n R t (tradedAt (cell n R t) k p y) after
+  -- the ends traded, and then both far ends mended: that of a gets the name p, that of b the name k
+  pub traded : {far : List ℕ} {x z : ℕ} → a ≡ cell n R t k y → b ≡ cell n R t p y
+      → Holds n R t (endsTraded (cell n R t) k p y a b) mid → Holds n R mid (mended (cell n R mid) k p a y x) far
+      → Holds n R far (mended (cell n R far) k p b y z) after → x ≡ p → z ≡ k → Holds n R t (tradedAt (cell n R t) k p y) after
   unfolding tradedBy
-  traded e d h f g =
+  traded {far} {x} {z} e d h f g i j =
       subst₂ (λ u v. Holds n R t (tradedBy (cell n R t) k p y u v) after) e d
-      (holds-step (holds-step h (λ c. mended c k p a y p) f) (λ c. mended c k p b y k) g)
+      (holds-step (holds-step h (λ c. mended c k p a y p) (subst (λ q. Holds n R mid (mended (cell n R mid) k p a y q) far) i f))
+      (λ c. mended c k p b y k) (subst (λ q. Holds n R far (mended (cell n R far) k p b y q) after) j g))
 
 -- ── The loop ──
 

@@ -1,5 +1,6 @@
 -- `numbering::trade` meets its contract. The ends are traded, and the far ends mended (`TradeTurn`).
 -- Assumes nothing.
+use native.Mathlib.Omega.{arith}
 use borrow.Author.Needs.{needs}
 use Rattle.numbering.proofs.StepLaws.{inside-then, point-as}
 use Rattle.numbering.proofs.TradeTurn.{traded}
@@ -42,7 +43,7 @@ returns c =
     let ends = near .before .before .before .before in
     let second = ends .before .before in
     traded _ _ _ _ _ (second .before .before .cell-at .ensures) (second .cell-at2 .ensures) (ends .trade-ends .ensures)
-    (near .mend .ensures) (far .mend2 .ensures)
+    (near .mend .ensures) (far .mend2 .ensures) (omega arith) (omega arith)
 
 pub trade-spec : {M : Type 1} → statement M
 trade-spec =
