@@ -16,7 +16,7 @@ use lib.ListN.{length, getD}
 use borrow.Author.Tests.{lt-ltb, le-ltb}
 use Rattle.theory.specs.Words.{inv}
 use Rattle.theory.specs.Letters.{usual}
-use Rattle.theory.specs.Tables.{absent, Leads, cell}
+use Rattle.theory.specs.Tables.{absent, cell}
 use Rattle.theory.proofs.TableLaws.{length-usual}
 use Rattle.theory.proofs.OneTable.{leads-here}
 use Rattle.engine.specs.Cells.{exchanged}

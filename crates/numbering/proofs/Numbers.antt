@@ -3,7 +3,7 @@
 --   number-bounded   : no row but those of the points counted has a cell; number-base, number-fits : they are one or more, and in the room
 --   number-exact     : it accepts the members that the table handed in accepted
 -- Assumes nothing.
-use mathlib.Core.Path.{_≡_, sym, subst, subst₂}
+use mathlib.Core.Path.{sym, subst, subst₂}
 use mathlib.Core.List.{List}
 use Prim.Native.Nat.{ℕ, _≤_, _<_}
 use Rattle.theory.specs.Letters.{usual}

@@ -4,7 +4,7 @@
 --   inside-then, roomed-then : a place stays inside, and the room a room, after a step; inside-back : the cell back from a point
 --   cell-point : by the inverse law a cell is absent or a point of the room; point-as : so is a copy of one that is
 -- Assumes nothing.
-use mathlib.Core.Path.{_≡_, refl, sym, _∙_, ap, subst, fun-ext}
+use mathlib.Core.Path.{_≡_, refl, sym, _∙_, subst, fun-ext}
 use mathlib.Core.List.{List}
 use Prim.Native.Nat.{ℕ, _+_, _*_, _≤_, _<_}
 use native.Mathlib.Nat.{suc-mul, mul-le-mul-right}
