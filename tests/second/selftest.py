@@ -17,8 +17,8 @@ from second.calls import Fold, Part, ask, fold, shorter  # noqa: E402
 from second.cases import bytes_item, bytes_of, result  # noqa: E402
 from second.files import (LoadedList, LoadedTable, load, number_bytes, save_list,  # noqa: E402
                           save_table, table_file)
-from second.folding import (ABSENT, breadth_table, first_pair, fold_words, last_pair,  # noqa: E402
-                            pairs, random_pair)
+from second.folding import (ABSENT, breadth_table, first_pair, fold_words,  # noqa: E402
+                            fold_words_quickly, last_pair, pairs, random_pair)
 from second.printing import printed  # noqa: E402
 from second.tables import (Counts, check, counts, equal, faulty_cell, is_member, member,  # noqa: E402
                            read)
@@ -199,10 +199,20 @@ def test_orders():
         same("never exceed L", one.merging + one.closing <= S <= L, True)
         same("no pair left", pairs(one.edges), [])
         same("canonical %r" % words, faulty_cell(n, V, cells), None)
-        for choose in (last_pair, random_pair(number), random_pair(number + 100000)):
-            other = fold_words(words, choose)
+        others = [fold_words(words, choose)
+                  for choose in (last_pair, random_pair(number), random_pair(number + 100000))]
+        for other in others + [fold_words_quickly(words)]:
             same("folds of %r" % words, (other.merging, other.closing), (one.merging, one.closing))
             same("table of %r" % words, breadth_table(n, other.edges), cells)
+
+
+def test_quick_folding():
+    """Folding by placing edges ends as folding pair by pair does, on longer lists."""
+    for _, n, words in random_lists(150, n_choice=(1, 2, 3, 26), most_words=9, most=24):
+        one, other = fold_words(words), fold_words_quickly(words)
+        same("quick counts of %r" % words, other[:4], one[:4])
+        same("quick edges left of %r" % words, pairs(other.edges), [])
+        same("quick table of %r" % words, breadth_table(n, other.edges), breadth_table(n, one.edges))
 
 
 def test_members():
