@@ -35,24 +35,18 @@ impl Lent {
     }
 }
 
-/// The least time of several runs, at least five of them and until a third of a second is over.
-fn least(mut run: impl FnMut()) -> Duration {
-    let (start, mut times) = (Instant::now(), Vec::new());
-    while times.len() < 5 || start.elapsed() < Duration::from_millis(300) {
-        let before = Instant::now();
-        run();
-        times.push(before.elapsed());
+/// The least times of several engines, run in turn: at least five times, and until a third of a second is over.
+fn least<const K: usize>(mut runs: [&mut dyn FnMut(); K]) -> [Duration; K] {
+    let (start, mut times, mut turns) = (Instant::now(), [Duration::MAX; K], 0);
+    while turns < 5 || start.elapsed() < Duration::from_millis(300) {
+        for (run, time) in runs.iter_mut().zip(&mut times) {
+            let before = Instant::now();
+            run();
+            *time = before.elapsed().min(*time);
+        }
+        turns += 1;
     }
-    times.into_iter().min().unwrap()
-}
-
-/// One engine on one list: the reply and the least time.
-fn measured(fold: Fold, n: usize, list: &[u8], lent: &mut Lent) -> (FoldReply, Duration) {
-    let reply = fold(n as u64, list, &mut lent.table, &mut lent.work);
-    let time = least(|| {
-        fold(n as u64, list, &mut lent.table, &mut lent.work);
-    });
-    (reply, time)
+    times
 }
 
 /// What one list of a shape took, in ns a letter: the library where it is built, plain Rust, filling the table.
@@ -67,19 +61,25 @@ struct Row {
 fn row(shape: &Shape, n: usize, size: usize) -> Row {
     let list = (shape.list)(n, size);
     let letters = list.iter().filter(|&&byte| byte != b'\n').count();
+    let (mut ours, mut other) = (Lent::new(letters + 1, n), Lent::new(letters + 1, n));
+    let folded = |fold: Fold, lent: &mut Lent| fold(n as u64, &list, &mut lent.table, &mut lent.work);
+    let fold = LIBRARY.unwrap_or(plain::fold);
+    let (reply, other_reply) = (folded(fold, &mut ours), folded(plain::fold, &mut other));
+    assert!(reply.number == 0 && reply == other_reply, "{}: {reply:?}, {other_reply:?}", shape.name);
+    assert!(ours.table == other.table && ours.work == other.work, "{}: other cells", shape.name);
+    let [library, plain] = least([
+        &mut || _ = folded(fold, &mut ours),
+        &mut || _ = folded(plain::fold, &mut other),
+    ]);
+    let [fill] = least([&mut || std::hint::black_box(&mut other.table).fill(ABSENT)]);
     let each = |time: Duration| time.as_nanos() as f64 / letters as f64;
-    let mut lent = Lent::new(letters + 1, n);
-    let (reply, plain) = measured(plain::fold, n, &list, &mut lent);
-    assert!(reply.number == 0, "{}: {reply:?}", shape.name);
-    let library = LIBRARY.map(|fold| {
-        let mut other = Lent::new(letters + 1, n);
-        let (other_reply, time) = measured(fold, n, &list, &mut other);
-        assert!(reply == other_reply, "{}: {other_reply:?}, not {reply:?}", shape.name);
-        assert!(lent.table == other.table && lent.work == other.work, "{}: other cells", shape.name);
-        each(time)
-    });
-    let fill = least(|| std::hint::black_box(&mut lent.table).fill(ABSENT));
-    Row { letters, points: reply.points, library, plain: each(plain), fill: each(fill) }
+    Row {
+        letters,
+        points: reply.points,
+        library: LIBRARY.map(|_| each(library)),
+        plain: each(plain),
+        fill: each(fill),
+    }
 }
 
 /// A number with its digits after the point, or a dash.
@@ -89,8 +89,8 @@ fn shown(value: Option<f64>, digits: usize) -> String {
 
 fn main() {
     match LIBRARY {
-        Some(_) => println!("Fill and growth are the library's."),
-        None => println!("The library is not built: plain Rust alone. Fill and growth are plain Rust's."),
+        Some(_) => println!("The last two columns are the library's."),
+        None => println!("The library is not built: plain Rust alone, also in the last two columns."),
     }
     println!("Least of five or more runs, ns a letter; growth from the smallest size of the same shape.\n");
     println!("| shape | n | letters | points | library | plain | library / plain | over a fill | growth |");

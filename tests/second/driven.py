@@ -1,6 +1,6 @@
-"""Fresh random lists through a driver and through this program: 'python3 driven.py DRIVER STORED'.
+"""Fresh random lists through a driver and through this program, and the stored ones: 'python3 driven.py DRIVER'.
 
-DRIVER runs cases on an engine (see tests/driver/main.rs); STORED is the folder of fold.stdin and fold.stdout.
+DRIVER runs cases on an engine (see tests/driver/main.rs).
 Every cell of both lent buffers is compared, and the driver watches guard cells around them. The seed is random
 and printed; the environment variable SEED sets it. The last line is 'N passed, M failed'.
 """
@@ -16,7 +16,7 @@ from second.calls import ask, fold  # noqa: E402
 from second.corpus import random_word, spoilt  # noqa: E402
 from second.folding import fold_words, fold_words_quickly  # noqa: E402
 from second.lists import KINDS, long_list, padded, some_list  # noqa: E402
-from second.stored import head, lent, needed, reply_items  # noqa: E402
+from second.stored import INPUT, OUTPUT, head, lent, needed, reply_items  # noqa: E402
 from second.words import (MOST_BYTES, Refused, inverse, letter_count, spell,  # noqa: E402
                           words_of)
 
@@ -197,24 +197,24 @@ def run(driver, mode, cases, line):
     return tally
 
 
-def run_stored(driver, folder):
+def run_stored(driver):
     """The stored lists."""
-    with open(os.path.join(folder, "fold.stdin"), "rb") as data:
+    with open(INPUT, "rb") as data:
         got = driven(driver, "stored", data.read())
-    with open(os.path.join(folder, "fold.stdout")) as lines:
+    with open(OUTPUT) as lines:
         want = lines.read().splitlines()
     print("stored: %d lists" % len(want))
     return compare("stored", range(1, len(want) + 1), got, want)
 
 
-def main(driver, folder):
+def main(driver):
     """Runs the three parts."""
     seed = int(os.environ.get("SEED") or random.SystemRandom().randrange(2 ** 32))
     print("seed %d" % seed)
     chance = random.Random(seed)
     tallies = [run(driver, "folds", [*good_folds(chance), *bad_folds(chance)], fold_line),
                run(driver, "asks", [*asks(chance)], ask_line),
-               run_stored(driver, folder)]
+               run_stored(driver)]
     passed, failed = (sum(part) for part in zip(*tallies))
     print("%d passed, %d failed" % (passed, failed))
     return 1 if failed else 0

@@ -11,7 +11,7 @@ import traceback
 
 sys.path.insert(0, os.path.dirname(os.path.dirname(os.path.abspath(__file__))))
 
-from second import corpus  # noqa: E402
+from second import corpus, stored  # noqa: E402
 from second.basis import basis, basis_words, express, expression, is_normal, normal  # noqa: E402
 from second.calls import Fold, Part, ask, fold, shorter  # noqa: E402
 from second.cases import bytes_item, bytes_of, result  # noqa: E402
@@ -213,6 +213,19 @@ def test_quick_folding():
         same("quick counts of %r" % words, other[:4], one[:4])
         same("quick edges left of %r" % words, pairs(other.edges), [])
         same("quick table of %r" % words, breadth_table(n, other.edges), breadth_table(n, one.edges))
+
+
+def test_stored():
+    """The stored lists and results are those that this program makes."""
+    made = list(stored.cases())
+    with open(stored.INPUT, "rb") as data:
+        same("stored cases", data.read() == b"".join(stored.case_bytes(*case) for case in made), True)
+    with open(stored.OUTPUT) as lines:
+        for number, (line, case) in enumerate(zip(lines.read().splitlines(), made), 1):
+            same("stored line %d" % number, line, stored.stored_line(*case))
+            if len(case[1]) < 250:
+                same("stored line %d, pair by pair" % number, line, stored.stored_line(*case, fold_words))
+    same("stored lines", number, len(made))
 
 
 def test_members():

@@ -1,4 +1,4 @@
-"""Stored lists and their results: 'python3 -m second.stored STDIN STDOUT' writes both files, always the same.
+"""Stored lists and their results: 'python3 -m second.stored' writes both files, always the same.
 
 A case is a head of little-endian numbers, n (8 bytes) and the lengths of list, table and work (4 each), then the
 list. The lent cells hold 777 before the call. Its line is 'refused NUMBER PLACE', or points, edges, rank, index
@@ -10,7 +10,8 @@ import os
 import random
 import sys
 
-sys.path.insert(0, os.path.dirname(os.path.dirname(os.path.abspath(__file__))))
+TESTS = os.path.dirname(os.path.dirname(os.path.abspath(__file__)))
+sys.path.insert(0, TESTS)
 
 from second.calls import fold, work_of_folding  # noqa: E402
 from second.corpus import random_words, spoilt  # noqa: E402
@@ -18,6 +19,9 @@ from second.folding import fold_words, fold_words_quickly  # noqa: E402
 from second.lists import KINDS, long_list  # noqa: E402
 from second.tables import counts  # noqa: E402
 from second.words import Refused, letter_count, list_text  # noqa: E402
+
+INPUT = os.path.join(TESTS, "stored", "fold.stdin")
+OUTPUT = os.path.join(TESTS, "stored", "fold.stdout")
 
 SEED = 20240917
 CELL_BEFORE = 777
@@ -69,13 +73,16 @@ def lent(table, work):
     return [CELL_BEFORE] * table, [CELL_BEFORE] * work
 
 
-def stored_line(n, text, table, work):
-    """The line of a case; both ways of folding must agree on it."""
-    answer, cells, after = fold(n, text, *lent(table, work), fold_words_quickly)
-    if len(text) < 6000:
-        assert (answer, cells, after) == fold(n, text, *lent(table, work), fold_words), text
+def stored_line(n, text, table, work, folding=fold_words_quickly):
+    """The line of a case."""
+    answer, cells, after = fold(n, text, *lent(table, work), folding)
     shown = cells if table <= MOST_SHOWN else []
     return " ".join(map(str, reply_items(n, answer, cells) + shown + [check(cells), check(after)]))
+
+
+def case_bytes(n, text, table, work):
+    """A case as stored."""
+    return head(n, text, table, work) + text
 
 
 def roomy(chance, n, text):
@@ -126,14 +133,17 @@ def cases():
     yield 1, power, 131075, 8 * 65538
 
 
-def main(stdin, stdout):
-    """Writes the cases and their lines."""
-    with open(stdin, "wb") as inputs, open(stdout, "w") as outputs:
-        for n, text, table, work in cases():
+def main():
+    """Writes the cases and their lines; both ways of folding must agree, pair by pair on all but the longest."""
+    with open(INPUT, "wb") as inputs, open(OUTPUT, "w") as outputs:
+        for case in cases():
+            n, text, table, work = case
             assert table <= MOST_TABLE and work <= MOST_WORK
-            inputs.write(head(n, text, table, work) + text)
-            outputs.write(stored_line(n, text, table, work) + "\n")
+            line = stored_line(*case)
+            assert len(text) > 6000 or line == stored_line(*case, fold_words), text
+            inputs.write(case_bytes(*case))
+            outputs.write(line + "\n")
 
 
 if __name__ == "__main__":
-    main(*sys.argv[1:])
+    main()
