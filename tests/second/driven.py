@@ -21,6 +21,7 @@ from second.words import (MOST_BYTES, Refused, inverse, letter_count, spell,  # 
                           words_of)
 
 LISTS = 400
+MEMBERS = 100
 ASKS = 200
 BAD_N = [0, 27, 28, 256, 258, 65536, 2 ** 32, 2 ** 32 + 1, 2 ** 40, 2 ** 63, 2 ** 64 - 1]
 PAIRWISE_LETTERS = 300
@@ -108,21 +109,27 @@ def product(chance, n, text):
     return spell(padded(chance, n, letters, len(letters) + 6))
 
 
+def members(chance):
+    """Lists with a member by construction."""
+    for _ in range(MEMBERS):
+        n = random_n(chance)
+        text = some_list(chance, n, 6, 10)
+        query = product(chance, n, text)
+        table, work = needed(n, text)
+        yield n, text, table + more(chance), max(work, len(query)) + more(chance), query
+
+
 def random_query(chance, n, text):
-    """A member by construction, a random word, a very long one, or one with a byte put in."""
-    kind = chance.randrange(8)
-    if kind < 3:
-        return product(chance, n, text)
-    query = spell(random_word(chance, n, 8))
-    if kind < 5:
-        return query
-    if kind == 5:
+    """A random word, one that needs more work than folding, or one with a byte put in."""
+    kind = chance.randrange(4)
+    if kind == 0:
         return spell(chance.choices(range(2 * n), k=8 * letter_count(text) + chance.randint(1, 40)))
-    return spoilt(chance, n, query)
+    query = spell(random_word(chance, n, 8))
+    return spoilt(chance, n, query) if kind == 1 else query
 
 
 def asks(chance):
-    """Lists with a query, some of them damaged."""
+    """Lists with any query, some of them damaged."""
     text = b"ab\n"
     yield 2, text, *needed(2, text), b"a" * (MOST_BYTES + 1)
     yield 2, text, *needed(2, text), b"ab\n"
@@ -188,13 +195,21 @@ def run(driver, mode, cases, line):
     got = driven(driver, mode, b"".join(map(case_bytes, cases)))
     items = [line(case) for case in cases]
     tally = compare(mode, cases, got, [" ".join(map(str, one)) for one in items])
-    refused = sorted(one[1] for one in items if one[0] == "refused")
-    met = ", ".join("%d by %d" % (refused.count(k), k) for k in sorted(set(refused)))
-    inside = sum(1 for one in items if one[0] == "inside")
-    print("%s: %d cases, %d cells compared; refused %s%s"
-          % (mode, len(cases), sum(case[2] + case[3] for case in cases), met,
-             "; %d inside" % inside if mode == "asks" else ""))
+    refused = [one[1] for one in items if one[0] == "refused"]
+    met = ["%d by %d" % (refused.count(k), k) for k in sorted(set(refused))]
+    met += ["%d %s" % (count, side) for side in ("inside", "outside")
+            for count in [sum(1 for one in items if one[0] == side)] if count]
+    print("%s: %d cases, %d cells compared; %d refused, %s" % (
+        mode, len(cases), sum(case[2] + case[3] for case in cases), len(refused), ", ".join(met)))
     return tally
+
+
+def all_inside(cases):
+    """This program must find every member by construction inside."""
+    outside = [case for case in cases if ask_line(case)[0] != "inside"]
+    for case in outside[:5]:
+        print("failed: not inside by this program: %.200r" % (case,))
+    return len(cases) - len(outside), len(outside)
 
 
 def run_stored(driver):
@@ -212,8 +227,10 @@ def main(driver):
     seed = int(os.environ.get("SEED") or random.SystemRandom().randrange(2 ** 32))
     print("seed %d" % seed)
     chance = random.Random(seed)
+    inside = [*members(chance)]
     tallies = [run(driver, "folds", [*good_folds(chance), *bad_folds(chance)], fold_line),
-               run(driver, "asks", [*asks(chance)], ask_line),
+               all_inside(inside),
+               run(driver, "asks", inside + [*asks(chance)], ask_line),
                run_stored(driver)]
     passed, failed = (sum(part) for part in zip(*tallies))
     print("%d passed, %d failed" % (passed, failed))
