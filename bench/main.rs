@@ -35,16 +35,20 @@ impl Lent {
     }
 }
 
-/// The least times of several engines, run in turn: at least five times, and until a third of a second is over.
+/// The least times of several engines: each has two spells of three runs and a tenth of a second at least, so
+/// that its buffers are warm and no spell of a busy machine falls on one engine alone.
 fn least<const K: usize>(mut runs: [&mut dyn FnMut(); K]) -> [Duration; K] {
-    let (start, mut times, mut turns) = (Instant::now(), [Duration::MAX; K], 0);
-    while turns < 5 || start.elapsed() < Duration::from_millis(300) {
+    let mut times = [Duration::MAX; K];
+    for _ in 0..2 {
         for (run, time) in runs.iter_mut().zip(&mut times) {
-            let before = Instant::now();
-            run();
-            *time = before.elapsed().min(*time);
+            let (start, mut turns) = (Instant::now(), 0);
+            while turns < 3 || start.elapsed() < Duration::from_millis(100) {
+                let before = Instant::now();
+                run();
+                *time = before.elapsed().min(*time);
+                turns += 1;
+            }
         }
-        turns += 1;
     }
     times
 }
@@ -92,7 +96,7 @@ fn main() {
         Some(_) => println!("The last two columns are the library's."),
         None => println!("The library is not built: plain Rust alone, also in the last two columns."),
     }
-    println!("Least of five or more runs, ns a letter; growth from the smallest size of the same shape.\n");
+    println!("Least of six or more runs, ns a letter; growth from the smallest size of the same shape.\n");
     println!("| shape | n | letters | points | library | plain | library / plain | over a fill | growth |");
     println!("|---|--:|--:|--:|--:|--:|--:|--:|--:|");
     for shape in &SHAPES {
