@@ -21,9 +21,9 @@ def work_of_folding(text):
     return 8 * (letter_count(text) + 1)
 
 
-def filled(n, text, table):
+def filled(n, text, table, folding):
     """Folding fills V rows, puts the absent mark up to (L + 1) x 2n cells, and touches nothing after."""
-    folded = fold_words(words_of(text))
+    folded = folding(words_of(text))
     rows = breadth_table(n, folded.edges)
     needed = (letter_count(text) + 1) * 2 * n
     after = rows + [ABSENT] * (needed - len(rows)) + list(table[needed:])
@@ -32,13 +32,13 @@ def filled(n, text, table):
     return answer, after
 
 
-def fold(n, text, table, work):
+def fold(n, text, table, work, folding=fold_words):
     """Folds a list of words into a table; gives the answer, the table and the work afterwards."""
     refusal = (refusal_of_list(n, text) or cause_6_of_folding(n, text, len(table))
                or cause_7(len(work), work_of_folding(text)))
     if refusal:
         return refusal, list(table), list(work)
-    answer, after = filled(n, text, table)
+    answer, after = filled(n, text, table, folding)
     return answer, after, cleared(work, work_of_folding(text))
 
 
@@ -52,12 +52,12 @@ def refusal_of_ask(n, text, query, table, work):
             or cause_7(len(work), max(work_of_folding(text), len(query))))
 
 
-def ask(n, text, query, table, work):
+def ask(n, text, query, table, work, folding=fold_words):
     """Folds a list and answers one query; gives the answer, the table and the work afterwards."""
     refusal = refusal_of_ask(n, text, query, table, work)
     if refusal:
         return refusal, list(table), list(work)
-    _, after = filled(n, text, table)
+    _, after = filled(n, text, table, folding)
     needed = max(work_of_folding(text), len(query))
     return is_member(n, after, word(query)), after, cleared(work, needed)
 

@@ -112,6 +112,58 @@ def fold_words(words, choose=first_pair):
             closing += 1
 
 
+def current(names, p):
+    """The name that a point has now: merged points are followed to the one they became."""
+    while names[p] != p:
+        names[p] = names[names[p]]
+        p = names[p]
+    return p
+
+
+def loosened(ends, p):
+    """Takes away the placed edges at a point, at both their ends."""
+    edges = []
+    while ends[p]:
+        (letter, leaves), q = ends[p].popitem()
+        del ends[q][letter, not leaves]
+        edges.append((p, letter, q) if leaves else (q, letter, p))
+    return edges
+
+
+def fold_words_quickly(words):
+    """The same folding for long lists: edges are placed one by one, and fold with one placed before.
+
+    ends[p] tells of the placed edges at p: letter and whether it leaves p give the other end. All edges at a
+    merged point are placed anew. Every fold made here is one by the definition, in some order.
+    """
+    start_points, edges = start_graph(words)
+    names = list(range(start_points))
+    ends = [{} for _ in range(start_points)]
+    loose = edges[::-1]
+    merging = closing = 0
+    while loose:
+        source, letter, target = loose.pop()
+        s, t = current(names, source), current(names, target)
+        if (letter, True) in ends[s]:
+            p, q = t, ends[s][letter, True]
+        elif (letter, False) in ends[t]:
+            p, q = s, ends[t][letter, False]
+        else:
+            ends[s][letter, True] = t
+            ends[t][letter, False] = s
+            continue
+        if p == q:
+            closing += 1
+            continue
+        merging += 1
+        keep, gone = (p, q) if p == BASE or q != BASE and len(ends[p]) > len(ends[q]) else (q, p)
+        names[gone] = keep
+        loose += loosened(ends, gone)
+    left = [(p, letter, q) for p in range(start_points)
+            for (letter, leaves), q in ends[p].items() if leaves]
+    return Folded(start_points, len(edges), merging, closing, left)
+
+
 def breadth_table(n, edges):
     """Number by breadth: rows in order, letters in letter order, each point numbered when first met."""
     leads = {}

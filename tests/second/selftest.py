@@ -11,14 +11,14 @@ import traceback
 
 sys.path.insert(0, os.path.dirname(os.path.dirname(os.path.abspath(__file__))))
 
-from second import corpus  # noqa: E402
+from second import corpus, stored  # noqa: E402
 from second.basis import basis, basis_words, express, expression, is_normal, normal  # noqa: E402
 from second.calls import Fold, Part, ask, fold, shorter  # noqa: E402
 from second.cases import bytes_item, bytes_of, result  # noqa: E402
 from second.files import (LoadedList, LoadedTable, load, number_bytes, save_list,  # noqa: E402
                           save_table, table_file)
-from second.folding import (ABSENT, breadth_table, first_pair, fold_words, last_pair,  # noqa: E402
-                            pairs, random_pair)
+from second.folding import (ABSENT, breadth_table, first_pair, fold_words,  # noqa: E402
+                            fold_words_quickly, last_pair, pairs, random_pair)
 from second.printing import printed  # noqa: E402
 from second.tables import (Counts, check, counts, equal, faulty_cell, is_member, member,  # noqa: E402
                            read)
@@ -199,10 +199,33 @@ def test_orders():
         same("never exceed L", one.merging + one.closing <= S <= L, True)
         same("no pair left", pairs(one.edges), [])
         same("canonical %r" % words, faulty_cell(n, V, cells), None)
-        for choose in (last_pair, random_pair(number), random_pair(number + 100000)):
-            other = fold_words(words, choose)
+        others = [fold_words(words, choose)
+                  for choose in (last_pair, random_pair(number), random_pair(number + 100000))]
+        for other in others + [fold_words_quickly(words)]:
             same("folds of %r" % words, (other.merging, other.closing), (one.merging, one.closing))
             same("table of %r" % words, breadth_table(n, other.edges), cells)
+
+
+def test_quick_folding():
+    """Folding by placing edges ends as folding pair by pair does, on longer lists."""
+    for _, n, words in random_lists(150, n_choice=(1, 2, 3, 26), most_words=9, most=24):
+        one, other = fold_words(words), fold_words_quickly(words)
+        same("quick counts of %r" % words, other[:4], one[:4])
+        same("quick edges left of %r" % words, pairs(other.edges), [])
+        same("quick table of %r" % words, breadth_table(n, other.edges), breadth_table(n, one.edges))
+
+
+def test_stored():
+    """The stored lists and results are those that this program makes."""
+    made = list(stored.cases())
+    with open(stored.INPUT, "rb") as data:
+        same("stored cases", data.read() == b"".join(stored.case_bytes(*case) for case in made), True)
+    with open(stored.OUTPUT) as lines:
+        for number, (line, case) in enumerate(zip(lines.read().splitlines(), made), 1):
+            same("stored line %d" % number, line, stored.stored_line(*case))
+            if len(case[1]) < 250:
+                same("stored line %d, pair by pair" % number, line, stored.stored_line(*case, fold_words))
+    same("stored lines", number, len(made))
 
 
 def test_members():
