@@ -1,0 +1,75 @@
+use borrow.Author.Needs.{needs}
+use Rattle.folds.proofs.take_words.Statement.{statement}
+use Rattle.folds.proofs.take_words.Tie as tie
+use Rattle.folds.proofs.take_words.Reads as reads
+use Rattle.folds.proofs.take_words.Lts as lts
+use Rattle.lists.proofs.next_start.Reads as next-start-reads
+use Rattle.takes.proofs.take_in.Reads as take-in-reads
+
+abbrev Inv-loop : tie.InvT-loop
+Inv-loop table₀ work₀ list n rows made₀ at₀ table work made at = ?
+
+abbrev μ-loop : tie.MeasureT-loop
+μ-loop table₀ work₀ list n rows made₀ at₀ table work made at = ?
+
+-- src/lib.rt:43:5
+loop-holds : tie.Need-loop-holds Inv-loop μ-loop
+loop-holds c = search needs
+
+-- src/lib.rt:44:68
+sub-take-in : tie.Need-sub-take-in Inv-loop μ-loop
+sub-take-in c = search needs
+
+-- src/lib.rt:44:68
+part-take-in-start : tie.Need-part-take-in-start Inv-loop μ-loop
+part-take-in-start c = search needs
+
+-- src/lib.rt:44:68
+part-take-in-end : tie.Need-part-take-in-end Inv-loop μ-loop
+part-take-in-end c = search needs
+
+-- src/lib.rt:44:9
+take-in-requires : tie.Need-take-in-requires Inv-loop μ-loop
+take-in-requires c κs = search needs
+
+-- src/lib.rt:45:9
+next-start-requires : tie.Need-next-start-requires Inv-loop μ-loop
+next-start-requires c κs = search needs
+
+-- src/lib.rt:43:5
+loop-less : tie.Need-loop-less Inv-loop μ-loop
+loop-less c = search needs
+
+-- src/lib.rt:43:5
+loop-again : tie.Need-loop-again Inv-loop μ-loop
+loop-again c = search needs
+
+-- src/lib.rt:35:1
+same-length : tie.Need-same-length Inv-loop μ-loop
+same-length c = search needs
+
+-- src/lib.rt:35:1
+same-length-2 : tie.Need-same-length-2 Inv-loop μ-loop
+same-length-2 c = search needs
+
+-- src/lib.rt:35:1
+returns : tie.Need-returns Inv-loop μ-loop
+returns c = search needs
+
+pub take-words-spec : {M : Type 1} → statement M
+take-words-spec =
+    tie.close
+    (tie.spec
+    Inv-loop
+    μ-loop
+    loop-holds
+    sub-take-in
+    part-take-in-start
+    part-take-in-end
+    take-in-requires
+    next-start-requires
+    loop-less
+    loop-again
+    same-length
+    same-length-2
+    returns)

@@ -1,0 +1,41 @@
+-- What the parts of `fold` ask and leave, cited by their contracts.
+--   Prepared r list table work  <-> the lent cells hold the base alone, and there is room for the list
+--   WordsIn r list ..           <-> every word of the list has been taken in (engine, `folded`)
+--   Foldable n list table work  <-> nothing is refused; Built <-> the table and the work cells afterwards
+-- Assumes nothing.
+use mathlib.Core.Path.{_≡_}
+use mathlib.Core.Bool.{true}
+use mathlib.Core.Option.{none}
+use mathlib.Core.List.{List}
+use Prim.Native.Nat.{ℕ, _+_, _*_, _≤_}
+use lib.ListN.{length, drop}
+use Rattle.theory.specs.Letters.{lettersIn, wordsOf, usual}
+use Rattle.theory.specs.Refusals.{textRefusal}
+use Rattle.theory.specs.Subgroups.{TableOf}
+use Rattle.engine.specs.Engine.{start, folded}
+use Rattle.rooms.specs.declared.Room.{Room}
+use Rattle.rooms.specs.Rooms.{stateIn, withMade, Lent}
+use Rattle.folds.specs.Causes.{rowsOf, workOf}
+use Rattle.folds.specs.Folds.{Cleared}
+
+pub record Prepared (r : Room) (list table work : List ℕ) : Type 0 where
+  pub lent : Lent r table work
+  pub fresh : stateIn r table work 0 ≡ start
+  pub fine : textRefusal (r .n) true list ≡ none
+  pub rows : r .rows ≡ rowsOf list
+
+pub record WordsIn (r : Room) (list table work : List ℕ) (made : ℕ) (table′ work′ : List ℕ) : Type 0 where
+  pub state : stateIn (withMade r made) table′ work′ 0 ≡ folded (usual (r .n)) start (wordsOf list)
+  pub table-same : length table′ ≡ length table
+  pub table-rest : drop (r .rows * (2 * r .n)) table′ ≡ drop (r .rows * (2 * r .n)) table
+  pub work-same : length work′ ≡ length work
+  pub work-rest : drop (3 * r .rows) work′ ≡ drop (3 * r .rows) work
+
+pub record Foldable (n : ℕ) (list table work : List ℕ) : Type 0 where
+  pub fine : textRefusal n true list ≡ none
+  pub rows : rowsOf list * (2 * n) ≤ length table
+  pub room : workOf list ≤ length work
+
+pub record Built (n : ℕ) (list table work : List ℕ) (N : ℕ) (table′ work′ : List ℕ) : Type 0 where
+  pub subgroup : TableOf n N table′ (wordsOf list)
+  pub cleared : Cleared n (rowsOf list) N table work table′ work′

@@ -1,0 +1,106 @@
+// Folding a list of words into the canonical table of its subgroup.
+ghost use mathlib.Core.Path.{_≡_};
+ghost use mathlib.Core.Bool.{true};
+ghost use mathlib.Core.Option.{none};
+ghost use Rattle.theory.specs.Refusals.{textRefusal};
+ghost use Rattle.folds.specs.Folds.{Done, FoldOutcome};
+ghost use Rattle.folds.specs.Rows.{Prepared, WordsIn, Foldable, Built};
+use lists::Scanned;
+use lists::StartSize;
+use refusals::Refusal;
+use rooms::Room;
+use tables::Checked;
+use tables::Figures;
+use tables::Subgroup;
+
+// The figures of a fold: points, edges with rank and index, the start graph's size, and the folds of each kind.
+pub struct FoldFigures {
+    pub points: u64,
+    pub counts: Figures,
+    pub start: StartSize,
+    pub merging: u64,
+    pub closing: u64,
+}
+
+// What folding says.
+pub enum Folded {
+    Refused(Refusal),
+    Made(FoldFigures),
+}
+
+// The absent mark.
+const ABSENT: u32 = 4294967295;
+
+// Takes every word of the list in, each as the part of the list where it starts. Answers the points made.
+fn take_words(table: &mut [u32], work: &mut [u32], room: Room, list: &[u8]) -> usize
+    requires { ⌜ Prepared room (now list) (now table) (now work) ⌝ }
+    ensures words { λ r. ⌜ WordsIn room (now (list .entry)) (now (table .entry)) (now (work .entry)) r (now (table .exit)) (now (work .exit)) ⌝ }
+{
+    let n = room.n;
+    let rows = room.rows;
+    let mut made = room.made;
+    let mut at: usize = 0;
+    while at < list.len() {
+        made = takes::take_in(table, work, Room { n, rows, made }, &list[at..]);
+        at = lists::next_start(list, at);
+    }
+    made
+}
+
+// Builds the table of a list in a room of L + 1 rows, and answers its points. The work cells are 0 afterwards.
+fn build(n: usize, list: &[u8], table: &mut [u32], work: &mut [u32]) -> usize
+    requires { ⌜ Foldable n (now list) (now table) (now work) ⌝ }
+    ensures built { λ r. ⌜ Built n (now (list .entry)) (now (table .entry)) (now (work .entry)) r (now (table .exit)) (now (work .exit)) ⌝ }
+{
+    let rows = lists::letters_in(list) + 1;
+    cells::fill(table, rows * (2 * n), ABSENT);
+    cells::fill(work, 1, 0);
+    take_words(table, work, Room { n, rows, made: 1 }, list);
+    let points = numbering::number(table, n, rows);
+    cells::fill(work, 8 * rows, 0);
+    points
+}
+
+// What is said of a list where nothing is refused.
+fn fold_lent(n: u64, list: &[u8], table: &mut [u32], work: &mut [u32]) -> Folded
+    requires { ⌜ Foldable n (now list) (now table) (now work) ⌝ }
+    ensures outcome { λ r. ⌜ FoldOutcome n (now (list .entry)) (now (table .entry)) (now (work .entry)) r (now (table .exit)) (now (work .exit)) ⌝ }
+{
+    let start = lists::start_size(list, work);
+    let points = build(n as usize, list, table, work) as u64;
+    match tables::check(Subgroup { n, points }, table) {
+        Checked::Refused(r) => Folded::Refused(r),
+        Checked::Counted(counts) => Folded::Made(FoldFigures {
+            points,
+            counts,
+            start,
+            merging: start.points as u64 - points,
+            closing: start.edges as u64 + 1 - start.points as u64 - counts.rank,
+        }),
+    }
+}
+
+// What is said of a list that is fine: 6, 7 or the fold.
+fn fold_text(n: u64, list: &[u8], table: &mut [u32], work: &mut [u32]) -> Folded
+    requires { ⌜ textRefusal n true (now list) ≡ none ⌝ }
+    ensures outcome { λ r. ⌜ FoldOutcome n (now (list .entry)) (now (table .entry)) (now (work .entry)) r (now (table .exit)) (now (work .exit)) ⌝ }
+{
+    let rows = lists::letters_in(list) + 1;
+    if table.len() < rows * (2 * (n as usize)) {
+        return Folded::Refused(refusals::refuse(6, 0));
+    }
+    if work.len() < 8 * rows {
+        return Folded::Refused(refusals::refuse(7, (8 * rows) as u64));
+    }
+    fold_lent(n, list, table, work)
+}
+
+// Folds a list of words over n generators into the canonical table of its subgroup, or refuses: 1, 2, 3/4, 5, 6, 7.
+pub fn fold(n: u64, list: &[u8], table: &mut [u32], work: &mut [u32]) -> Folded
+    ensures outcome { λ r. ⌜ FoldOutcome n (now (list .entry)) (now (table .entry)) (now (work .entry)) r (now (table .exit)) (now (work .exit)) ⌝ }
+{
+    match lists::scan(n, list, true) {
+        Scanned::Refused(r) => Folded::Refused(r),
+        Scanned::Fine => fold_text(n, list, table, work),
+    }
+}
