@@ -1,6 +1,7 @@
 -- Every list that is not refused has its canonical table: what is proved of every `TableOf` a list holds of lists outright.
 --   rows-at                : the cells of a table, row by row, as a list
---   good-words             : the letters of a list that is not refused are those of its alphabet
+--   good-words, all-words  : the letters of a list that is not refused are those of its alphabet
+--   list-points, list-short : it has at most one point more than letters, and few of these
 --   every-list-has-a-table : the table that folding gives is `TableOf` the list's words
 -- Assumes nothing.
 use mathlib.Core.Path.{_≡_, refl, sym, _∙_, ap, subst, fun-ext}
@@ -99,7 +100,7 @@ cell-rows n N c b = fun-ext (λ v. fun-ext (λ y. by-cases (decLt v N) (λ h. by
 -- ── The words of a list that is not refused ──
 
 -- each word of ws is over the letters ys
-abbrev AllWords : List ℕ → List (List ℕ) → Type 0
+abbrev pub AllWords : List ℕ → List (List ℕ) → Type 0
 AllWords ys [] = Unit {0}
 AllWords ys (w ∷ ws) = AllIn ys w × AllWords ys ws
 
@@ -138,12 +139,12 @@ words-over n (b ∷ bs) f =
     stands : letterOf b < 2 * n → StandsIn (usual n) (letterOf b)
     stands h = (letterOf b, omega (arith, length-usual n), getD-usual n (letterOf b) h)
 
-all-words : (ys : List ℕ) (ws : List (List ℕ)) → AllWords ys ws → (w : List ℕ) → List·Memᴰ w ws → AllIn ys w
+pub all-words : (ys : List ℕ) (ws : List (List ℕ)) → AllWords ys ws → (w : List ℕ) → List·Memᴰ w ws → AllIn ys w
 all-words ys [] a w m = absurd (List·Memᴰ·not-nil m)
 all-words ys (v ∷ ws) a w m = ⊎-elim (λ e. subst (AllIn ys) (sym e) (a .0)) (λ l. all-words ys ws (a .1) w l) (List·Memᴰ·cases-cons m)
 
 -- the words of a list that is not refused are over its alphabet
-good-words : (n : ℕ) (text : List ℕ) → textRefusal n true text ≡ none → AllWords (usual n) (wordsOf text)
+pub good-words : (n : ℕ) (text : List ℕ) → textRefusal n true text ≡ none → AllWords (usual n) (wordsOf text)
 unfolding textRefusal
 good-words n text e = words-over n text (subst (Scanned n true 0 text) clean (scanned n true 0 text))
   where
@@ -158,6 +159,15 @@ points-few : (ws : List (List ℕ)) → startPoints ws ≤ reducedLength ws + 1
 unfolding startPoints reducedLength
 points-few [] = omega arith
 points-few (w ∷ ws) = omega (arith, points-few ws)
+
+pub list-points : (text : List ℕ) → startPoints (wordsOf text) ≤ lettersIn text + 1
+list-points text = omega (arith, points-few (wordsOf text), reducedLength-written (wordsOf text), written-letters text)
+
+-- a list that is not refused is short, and so has few letters
+pub list-short : (n : ℕ) (text : List ℕ) → textRefusal n true text ≡ none → lettersIn text ≤ textLimit
+list-short n text e =
+    by-cases (decLt textLimit (length text)) (λ h. absurd (refusal-none n true text e 2 0 (refl, h)))
+    (λ h. omega (arith, letters-le text))
 
 -- ── The table ──
 
@@ -176,13 +186,7 @@ every-list-has-a-table n text e = (
     s = numbered (usual n) (startPoints (wordsOf text)) (folded (usual n) start (wordsOf text) .cells)
 
     small : startPoints (wordsOf text) ≤ absent
-    small = few-points text (short n text e)
-      where
-        short : (n : ℕ) (text : List ℕ) → textRefusal n true text ≡ none → length text ≤ textLimit
-        short n text e = by-cases (decLt textLimit (length text)) (λ h. absurd (refusal-none n true text e 2 0 (refl, h))) (λ h. omega arith)
-
-        few-points : (text : List ℕ) → length text ≤ textLimit → startPoints (wordsOf text) ≤ absent
-        few-points text h = omega (arith, points-few (wordsOf text), reducedLength-written (wordsOf text), written-letters text, letters-le text)
+    small = omega (arith, list-points text, list-short n text e)
 
     T : Table (usual n) (startPoints (wordsOf text)) (wordsOf text) s
     T = folded-usual n (wordsOf text) (all-words (usual n) (wordsOf text) (good-words n text e)) (startPoints (wordsOf text)) (omega arith) small

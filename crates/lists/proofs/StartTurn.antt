@@ -45,6 +45,27 @@ drop-min l k =
     large : (k ≤ length l → ⊥) → min (length l) k ≡ length l
     large h = omega arith
 
+-- the walk goes from word to word
+pub words-next : (list : List ℕ) (at next : ℕ) → at < length list → next ≡ nextStart list at
+    → wordsOf (drop at list) ≡ firstWord (drop at list) ∷ wordsOf (drop next list)
+unfolding nextStart
+words-next list at next l f = here ∙ ap (λ ws. firstWord d ∷ ws) (sym there)
+  where
+    d : List ℕ
+    d = drop at list
+
+    here : wordsOf d ≡ firstWord d ∷ wordsOf (drop (suc (wordLength d)) d)
+    here = words-walk d (rw length-drop (omega arith))
+
+    there : wordsOf (drop next list) ≡ wordsOf (drop (suc (wordLength d)) d)
+    there =
+        ap wordsOf (ap (λ j. drop j list) f ∙ drop-min list (at + suc (wordLength d)) ∙ sym (drop-drop (suc (wordLength d)) at list))
+
+-- each place that the walk comes to is in the list
+pub next-in : (list : List ℕ) (at next : ℕ) → next ≡ nextStart list at → next ≤ length list
+unfolding nextStart
+next-in list at next e = omega arith
+
 module _ {list work : List ℕ} {points edges at : ℕ} {cells : List ℕ} (h : Head list work points edges at cells) where
   -- the part that is handed over is the rest of the list, and its word has room
   pub head-room : wordLength (take (length list - at) (drop at list)) ≤ length cells
@@ -55,15 +76,15 @@ module _ {list work : List ℕ} {points edges at : ℕ} {cells : List ℕ} (h : 
   pub head-turn : {r : Reduced} {n next : ℕ} {after : List ℕ} → at < length list
       → ReducedInto (take (length list - at) (drop at list)) cells r after → length after ≡ length cells → n ≡ r .left - 1
       → next ≡ nextStart list at → Head list work (points + n) (edges + r .left) next after
-  unfolding startPoints reducedLength nextStart
+  unfolding startPoints reducedLength
   head-turn {r} {n} {next} {after} l p k e f =
       record {
-        inside = omega (arith, f);
+        inside = next-in list at next f;
         room = h .room;
         same = k ∙ h .same;
         kept = ap (drop (lettersIn list)) (into .cells) ∙ cells-kept w cells (lettersIn list) (omega (arith, length-firstWord d, word-letters d, letters-drop at list)) ∙ h .kept;
-        pointed = omega (arith, h .pointed, ap startPoints here, ap startPoints there, into .left, e);
-        edged = omega (arith, h .edged, ap reducedLength here, ap reducedLength there, into .left);
+        pointed = omega (arith, h .pointed, ap startPoints walk, into .left, e);
+        edged = omega (arith, h .edged, ap reducedLength walk, into .left);
       }
     where
       d : List ℕ
@@ -75,11 +96,8 @@ module _ {list work : List ℕ} {points edges at : ℕ} {cells : List ℕ} (h : 
       into : ReducedInto d cells r after
       into = subst (λ part. ReducedInto part cells r after) (rest-of list at) p
 
-      here : wordsOf d ≡ w ∷ wordsOf (drop (suc (wordLength d)) d)
-      here = words-walk d (rw length-drop (omega arith))
-
-      there : wordsOf (drop next list) ≡ wordsOf (drop (suc (wordLength d)) d)
-      there = ap wordsOf (ap (λ j. drop j list) f ∙ drop-min list (at + suc (wordLength d)) ∙ sym (drop-drop (suc (wordLength d)) at list))
+      walk : wordsOf d ≡ w ∷ wordsOf (drop next list)
+      walk = words-next list at next l f
 
   -- the counts stay small
   pub head-small : (points ≤ length list + 1) × (edges ≤ length list)

@@ -2,6 +2,7 @@
 --   work-is     : reducing the word leaves `reducedIn`
 --   reads-asks, back-asks, chain-asks, circle-is : the readings, the chain, and what they are in the engine's model
 --   drain-asks, taken-is : the drain
+--   taken-points, taken-fit, taken-rest : what a caller learns
 -- Assumes nothing.
 use mathlib.Core.Path.{_≡_, refl, sym, _∙_, ap, subst, subst₂, fun-ext}
 use mathlib.Core.Logic.{by-cases}
@@ -10,7 +11,7 @@ use Prim.Native.Nat.{ℕ, zero, suc, _+_, _-_, _*_, _≤_, _<_}
 use native.Mathlib.Decide.{decLt}
 use native.Mathlib.Omega.{arith}
 use lib.ListN.{length, getD, take, drop, replicate, length-append, length-drop, length-take, length-replicate, drop-of-length-le}
-use lib.Seq.{take-all, take-append-seam, drop-append-seam, take-take, length-take-le, getD-take}
+use lib.Seq.{drop-drop, take-all, take-append-seam, drop-append-seam, take-take, length-take-le, getD-take}
 use borrow.Rule.Slice.PartMut.{putMid}
 use Rattle.theory.specs.Words.{reduced, Reduced, inverseOf}
 use Rattle.theory.specs.Letters.{wordLength, firstWord, AllIn, usual}
@@ -21,11 +22,13 @@ use Rattle.theory.proofs.TextLaws.{length-firstWord}
 use Rattle.theory.proofs.StartLaws.{reduced-shorter}
 use Rattle.words.specs.declared.Reduced.{Reduced as Figures}
 use Rattle.words.specs.Reduction.{reducedCells, ReducedInto}
+use Rattle.words.proofs.ReduceTurn.{cells-kept}
 use Rattle.engine.specs.Roots.{Falls}
 use Rattle.engine.specs.Engine.{State, stateOf, ahead, front, behind, chained, takenIn, drained}
 use Rattle.engine.specs.Stages.{Chainable, Roomy}
 use Rattle.engine.specs.Work.{forwardOf, pendingOf}
 use Rattle.engine.proofs.WorkLaws.{forward-in, forward-own}
+use Rattle.engine.proofs.DrainLaws.{drained-settles, drained-roomy}
 use Rattle.engine.proofs.ChainLaws.{Chains, chained-chains}
 use Rattle.engine.proofs.TakeLaws.{stage-chainable}
 use Rattle.engine.proofs.FoldLaws.{all-reduced, parts-read, middle-points}
@@ -58,6 +61,13 @@ module _ {r : Room} {text table work : List ℕ} (h : Takeable r text table work
 
   abbrev behindR : List ℕ
   behindR = drop (2 * R) work
+
+  -- the middle of the word may be chained
+  word-chainable
+      : Chainable (λ w. Unit {0}) (λ v. []) (usual (r .n)) (stateIn r table work 0) (front c word .point) (inverseOf (behind c word .rest)) (behind c word .point)
+  word-chainable =
+      stage-chainable all-words (usual-closed (r .n)) (h .fit .stage) word _ _ _ _ _ (parts-read c word) (reduced-none letters (firstWord text))
+      (all-reduced (usual (r .n)) (firstWord text) (h .letters)) tt (omega (arith, h .room, h .fit .lent .fits))
 
   whole : take (length work - 2 * R) behindR ≡ behindR
   whole = take-all (length work - 2 * R) behindR (omega (arith, length-drop (2 * R) work))
@@ -234,12 +244,6 @@ module _ {r : Room} {text table work : List ℕ} (h : Takeable r text table work
           points =
               omega (arith, ap length middle-is, length-drop (f .count) (take (b .count) (wordIn r work₁)), length-take (b .count) (wordIn r work₁), back-word .inside)
 
-          chainable
-              : Chainable (λ w. Unit {0}) (λ v. []) (usual (r .n)) (stateIn r table work 0) (front c word .point) middle (behind c word .point)
-          chainable =
-              stage-chainable all-words (usual-closed (r .n)) (h .fit .stage) word _ _ _ _ _ (parts-read c word) (reduced-none letters (firstWord text))
-              (all-reduced (usual (r .n)) (firstWord text) (h .letters)) tt (omega (arith, h .room, h .fit .lent .fits))
-
           pub chain-asks : ChainFits r table work₁ 0 (f .point) (b .point) (f .count) (b .count)
           chain-asks =
               record {
@@ -250,7 +254,7 @@ module _ {r : Room} {text table work : List ℕ} (h : Takeable r text table work
                 chainable =
                     subst (λ s. Chainable (λ w. Unit {0}) (λ v. []) (usual (r .n)) s (f .point) (part (wordIn r work₁) (f .count) (b .count)) (b .point)) (sym state-same)
                     (subst (λ a. Chainable (λ w. Unit {0}) (λ v. []) (usual (r .n)) (stateIn r table work 0) a (part (wordIn r work₁) (f .count) (b .count)) (b .point)) (sym (front-word .point))
-                    (subst₂ (λ m d. Chainable (λ w. Unit {0}) (λ v. []) (usual (r .n)) (stateIn r table work 0) (front c word .point) m d) (sym middle-is) (sym back-point) chainable));
+                    (subst₂ (λ m d. Chainable (λ w. Unit {0}) (λ v. []) (usual (r .n)) (stateIn r table work 0) (front c word .point) m d) (sym middle-is) (sym back-point) word-chainable));
               }
 
           pub circle-is : {g : Grown} {table′ work′ : List ℕ}
@@ -263,21 +267,43 @@ module _ {r : Room} {text table work : List ℕ} (h : Takeable r text table work
 
   -- ── The drain ──
 
-  module _ {g : Grown} {table′ work′ : List ℕ} (k : CircleOf r text table work g table′ work′) where
-    chain-of : Chains (λ w. Unit {0}) (usual (r .n)) (stateIn r table work 0) (front c word .point) (inverseOf (behind c word .rest)) (behind c word .point)
-        (circled r text table work)
-    unfolding takenIn
-    chain-of =
-        chained-chains all-words (usual-closed (r .n)) (stateIn r table work 0) _ _ _
-        (stage-chainable all-words (usual-closed (r .n)) (h .fit .stage) word _ _ _ _ _ (parts-read c word) (reduced-none letters (firstWord text))
-        (all-reduced (usual (r .n)) (firstWord text) (h .letters)) tt (omega (arith, h .room, h .fit .lent .fits)))
+  chained-in : Chains (λ w. Unit {0}) (usual (r .n)) (stateIn r table work 0) (front c word .point) (inverseOf (behind c word .rest)) (behind c word .point)
+      (circled r text table work)
+  unfolding takenIn
+  chained-in = chained-chains all-words (usual-closed (r .n)) (stateIn r table work 0) _ _ _ word-chainable
 
+  module _ {g : Grown} {table′ work′ : List ℕ} (k : CircleOf r text table work g table′ work′) where
     pub drain-asks : Fit (withMade r (g .made)) [] table′ work′ (g .count)
     drain-asks =
-        fit-grown (g .made) (omega (arith, k .made, chain-of .made, middle-points c word, h .room))
-        (fit-same refl .lent) (k .left) (plain-stage (chain-of .stage)) (omega (arith, chain-of .made, chain-of .weighs, h .fit .roomy))
+        fit-grown (g .made) (omega (arith, k .made, chained-in .made, middle-points c word, h .room))
+        (fit-same refl .lent) (k .left) (plain-stage (chained-in .stage)) (omega (arith, chained-in .made, chained-in .weighs, h .fit .roomy))
 
     pub taken-is : {table″ work″ : List ℕ}
         → Left (withMade r (g .made)) table′ work′ (drained (usual (r .n)) (stateIn (withMade r (g .made)) table′ work′ (g .count))) table″ work″ 0
         → TakenIn r text table work (g .made) table″ work″
     taken-is m = record { made-is = k .made; left = left-then (k .left) (drained (usual (r .n))) m }
+
+  -- ── For callers ──
+
+  module _ {made : ℕ} {table′ work′ : List ℕ} (k : TakenIn r text table work made table′ work′) where
+    -- no more new points than the word's circle has
+    pub taken-points : made ≤ r .made + newPoints word
+    taken-points = omega (arith, k .made-is, chained-in .made, middle-points c word)
+
+    -- nothing is pending, and the next word may be taken in
+    pub taken-fit : Fit (withMade r made) [] table′ work′ 0
+    taken-fit =
+        fit-grown made (omega (arith, taken-points, h .room)) (fit-same refl .lent) (k .left)
+        (drained-settles all-words (plain-stage (chained-in .stage)) .stage)
+        (drained-roomy all-words (plain-stage (chained-in .stage)) (omega (arith, chained-in .made, chained-in .weighs, h .fit .roomy)))
+
+    pub taken-rest : drop (3 * R) work′ ≡ drop (3 * R) work
+    taken-rest =
+        split work′ ∙ ap (drop R) (k .left .work-rest ∙ word-cells refl)
+        ∙ cells-kept (firstWord text) behindR R (omega (arith, length-firstWord text, h .place)) ∙ sym (split work)
+      where
+        split : (l : List ℕ) → drop (3 * R) l ≡ drop R (drop (2 * R) l)
+        split l = ap (λ j. drop j l) three ∙ sym (drop-drop R (2 * R) l)
+          where
+            three : 3 * R ≡ 2 * R + R
+            three = omega arith
