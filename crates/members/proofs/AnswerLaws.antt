@@ -36,7 +36,7 @@ use Rattle.theory.proofs.RefusalLaws.{alphabet-in, refusal-none}
 use Rattle.theory.proofs.TextLaws.{length-firstWord}
 use Rattle.theory.proofs.StartLaws.{reduced-shorter}
 use Rattle.theory.proofs.CanonicalLaws.{table-none-canonical}
-use Rattle.theory.proofs.TableRefusalLaws.{else-none, unrefused, no-cell, lent-in}
+use Rattle.theory.proofs.TableRefusalLaws.{else-none, unrefused, no-cell, lent-in, text-alphabet}
 use Rattle.cells.specs.Filled.{filled}
 use Rattle.refusals.specs.Given.{given, givenAs}
 use Rattle.refusals.specs.declared.Refusal.{Refusal}
@@ -149,8 +149,7 @@ module _ (k n N : ℕ) (t : List ℕ) (needed room : ℕ) where
 -- ── Nothing is refused ──
 
 pub alphabet-of : (n : ℕ) (query : List ℕ) → textRefusal n false query ≡ none → isAlphabet n ≡ true
-unfolding textRefusal
-alphabet-of n query e = not-false _ (unrefused (not (isAlphabet n)) 1 0 (else-none _ _ e .0))
+alphabet-of n query e = text-alphabet n false query e
 
 pub record Fine (n N : ℕ) (t query : List ℕ) (room : ℕ) : Type 0 where
   pub text : textRefusal n false query ≡ none

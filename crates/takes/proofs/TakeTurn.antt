@@ -2,7 +2,7 @@
 --   work-is     : reducing the word leaves `reducedIn`
 --   reads-asks, back-asks, chain-asks, circle-is : the readings, the chain, and what they are in the engine's model
 --   drain-asks, taken-is : the drain
---   taken-points, taken-fit, taken-rest : what a caller learns
+--   taken-points, taken-fit, taken-long, taken-rest : what a caller learns
 -- Assumes nothing.
 use mathlib.Core.Path.{_≡_, refl, sym, _∙_, ap, subst, subst₂, fun-ext}
 use mathlib.Core.Logic.{by-cases}
@@ -296,6 +296,9 @@ module _ {r : Room} {text table work : List ℕ} (h : Takeable r text table work
         fit-grown made (omega (arith, taken-points, h .room)) (fit-same refl .lent) (k .left)
         (drained-settles all-words (plain-stage (chained-in .stage)) .stage)
         (drained-roomy all-words (plain-stage (chained-in .stage)) (omega (arith, chained-in .made, chained-in .weighs, h .fit .roomy)))
+
+    pub taken-long : length work′ ≡ length work
+    taken-long = k .left .work-same ∙ reduced-long
 
     pub taken-rest : drop (3 * R) work′ ≡ drop (3 * R) work
     taken-rest =

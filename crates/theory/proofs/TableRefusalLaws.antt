@@ -5,7 +5,7 @@
 --   join           : the causes of earlier turns decide; where none of them applies, those of later turns do
 --   only-at, only-if, only-either : the causes of one number, by their lowest place, by a test, of two tables
 --   text-decides   : the causes of a text
---   else-none, unrefused, no-cell : the parts of a computed refusal that is none
+--   else-none, unrefused, no-cell, text-alphabet : the parts of a computed refusal that is none
 --   check-refusal-first, member-refusal-first, equal-refusal-first : the three functions, and `..-none` where none applies
 -- Assumes nothing.
 use mathlib.Core.Path.{_≡_, refl, sym, _∙_, ap, subst}
@@ -18,7 +18,7 @@ use native.Mathlib.Decide.{ℕ-discrete, decLt}
 use native.Mathlib.Omega.{arith}
 use lib.Dec.{eqb, ltb, leb}
 use lib.ListN.{length}
-use borrow.Author.Tests.{ne-eqb, eqb-true, eqb-false, ltb-true, lt-ltb, leb-true, le-leb, not-true}
+use borrow.Author.Tests.{ne-eqb, eqb-true, eqb-false, ltb-true, lt-ltb, leb-true, le-leb, not-true, not-false}
 use Rattle.theory.specs.Letters.{usual}
 use Rattle.theory.specs.Refusals.{Refusal, pointLimit, Cause1, Cause6Lent, CauseShort, turn, First, Only, Join, TextCause, isAlphabet, orElse, refusedIf, textRefusal}
 use Rattle.theory.specs.Tables.{absent, cell}
@@ -376,3 +376,8 @@ module _ (n N : ℕ) (t : List ℕ) (m M : ℕ) (s : List ℕ) where
 
   pub equal-refusal-none : (equalRefusal n N t m M s ≡ none) ↔ ((k p : ℕ) → EqualCause n N t m M s k p → ⊥)
   equal-refusal-none = decided-none equal-decides
+
+-- a text that is not refused has an alphabet
+pub text-alphabet : (n : ℕ) (lines : Bool) (text : List ℕ) → textRefusal n lines text ≡ none → isAlphabet n ≡ true
+unfolding textRefusal
+text-alphabet n lines text e = not-false _ (unrefused (not (isAlphabet n)) 1 0 (else-none _ _ e .0))

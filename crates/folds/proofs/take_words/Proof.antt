@@ -1,3 +1,11 @@
+-- `folds::take_words` meets its contract. The loop: the words before `at` are taken in (`WordsTurn`).
+-- Assumes nothing.
+use Rattle.folds.proofs.WordsTurn.{Head, head-first, head-asks, head-turn, head-done}
+use Rattle.lists.proofs.CountTurn.{next-further}
+use lib.ListN.{length}
+use native.Mathlib.Omega.{arith}
+use Prim.Native.Nat.{_-_}
+use mathlib.Core.Path.{_∙_}
 use borrow.Author.Needs.{needs}
 use Rattle.folds.proofs.take_words.Statement.{statement}
 use Rattle.folds.proofs.take_words.Tie as tie
@@ -7,14 +15,14 @@ use Rattle.lists.proofs.next_start.Reads as next-start-reads
 use Rattle.takes.proofs.take_in.Reads as take-in-reads
 
 abbrev Inv-loop : tie.InvT-loop
-Inv-loop table₀ work₀ list n rows made₀ at₀ table work made at = ?
+Inv-loop table₀ work₀ list n rows made₀ at₀ table work made at = Head (record { n = n; rows = rows; made = made₀ }) list table₀ work₀ made at table work
 
 abbrev μ-loop : tie.MeasureT-loop
-μ-loop table₀ work₀ list n rows made₀ at₀ table work made at = ?
+μ-loop table₀ work₀ list n rows made₀ at₀ table work made at = length list - at
 
 -- src/lib.rt:43:5
 loop-holds : tie.Need-loop-holds Inv-loop μ-loop
-loop-holds c = search needs
+loop-holds c = head-first (c .before .before .before .pre)
 
 -- src/lib.rt:44:68
 sub-take-in : tie.Need-sub-take-in Inv-loop μ-loop
@@ -30,19 +38,19 @@ part-take-in-end c = search needs
 
 -- src/lib.rt:44:9
 take-in-requires : tie.Need-take-in-requires Inv-loop μ-loop
-take-in-requires c κs = search needs
+take-in-requires c κs = head-asks (c .before .before .before .before .loop .inv) (c .before .before .before .loop-test .taken)
 
 -- src/lib.rt:45:9
 next-start-requires : tie.Need-next-start-requires Inv-loop μ-loop
-next-start-requires c κs = search needs
+next-start-requires c κs = omega (arith, c .before .before .before .before .before .before .before .before .loop-test .taken)
 
 -- src/lib.rt:43:5
 loop-less : tie.Need-loop-less Inv-loop μ-loop
-loop-less c = search needs
+loop-less c = next-further _ _ _ (c .before .before .before .before .before .before .before .before .before .loop-test .taken) (c .next-start .ensures)
 
 -- src/lib.rt:43:5
 loop-again : tie.Need-loop-again Inv-loop μ-loop
-loop-again c = search needs
+loop-again c = head-turn (c .before .before .before .before .before .before .before .before .before .before .loop .inv) (c .before .before .before .before .before .before .before .before .before .loop-test .taken) (c .before .before .before .before .before .take-in .ensures) (c .next-start .ensures)
 
 -- src/lib.rt:35:1
 same-length : tie.Need-same-length Inv-loop μ-loop
@@ -54,7 +62,7 @@ same-length-2 c = search needs
 
 -- src/lib.rt:35:1
 returns : tie.Need-returns Inv-loop μ-loop
-returns c = search needs
+returns c = head-done (c .before .loop .inv) (c .loop-test .left)
 
 pub take-words-spec : {M : Type 1} → statement M
 take-words-spec =
