@@ -6,6 +6,7 @@
 --   fold-exact                    : the table accepts exactly the members
 --   folds-equal-iff-same-subgroup : two tables over one alphabet are equal exactly if the lists generate the same subgroup
 --   fold-counts-are-folds         : merging folds and points are the start points, closing folds and rank the words not empty
+--   folds-few                     : all folds together are at most S, and so at most L
 --   fold-prefixes                 : when two prefixes of reduced listed words end at one point
 -- Assumes nothing.
 use mathlib.Core.Path.{_≡_, refl, _∙_, ap, subst}
@@ -13,18 +14,18 @@ use mathlib.Core.Bool.{true}
 use mathlib.Core.Logic.{_↔_}
 use mathlib.Core.Option.{Option, none, some}
 use mathlib.Core.List.{List}
-use Prim.Native.Nat.{ℕ, _+_}
+use Prim.Native.Nat.{ℕ, _+_, _≤_}
 use native.Mathlib.Omega.{arith}
 use lib.ListN.{length}
 use Rattle.theory.specs.Words.{Member, SameSubgroup}
-use Rattle.theory.specs.Letters.{usual, wordsOf}
+use Rattle.theory.specs.Letters.{usual, lettersIn, wordsOf}
 use Rattle.theory.specs.Refusals.{Refusal as FirstCause, First}
 use Rattle.theory.specs.Tables.{cell, Leads, isAccepted}
-use Rattle.theory.specs.Graphs.{startGraph, nonEmptyWords}
+use Rattle.theory.specs.Graphs.{startGraph, reducedLength, nonEmptyWords}
 use Rattle.theory.specs.Basis.{rankOf}
 use Rattle.theory.specs.Subgroups.{TableOf, Prefix, EndsAlike}
 use Rattle.theory.proofs.FoldCounts.{folding-exists}
-use Rattle.theory.proofs.Main.{member-iff-reads-back, tables-equal-iff-same-subgroup, fold-counts, prefixes-in-the-table}
+use Rattle.theory.proofs.Main.{member-iff-reads-back, tables-equal-iff-same-subgroup, fold-counts, folds-at-most, prefixes-in-the-table}
 use Rattle.refusals.specs.Given.{given, givenAs}
 use Rattle.refusals.specs.declared.Refusal.{Refusal}
 use Rattle.tables.specs.Checks.{figuresAs}
@@ -106,6 +107,14 @@ module _ (n : ℕ) (list table work : List ℕ) (f : FoldFigures) (table′ work
       let c = fold-counts (d .subgroup) (x .3) in
       let e = d .folds (x .0) (x .1) (x .2) (x .3) in
       (omega (arith, c .0, e .0, d .start-points), omega (arith, c .1, e .1, rank))
+
+  pub folds-few
+      : (f .merging + f .closing ≤ reducedLength (wordsOf list)) × (f .merging + f .closing ≤ lettersIn list)
+  folds-few =
+      let x = folding-exists (startGraph (wordsOf list)) in
+      let c = folds-at-most list (x .3 .0) in
+      let e = made-done .1 .folds (x .0) (x .1) (x .2) (x .3) in
+      (omega (arith, c .0, e .0, e .1), omega (arith, c .1, e .0, e .1))
 
   pub fold-prefixes : (u v : List ℕ) → Prefix (wordsOf list) u → Prefix (wordsOf list) v
       → EndsAlike (wordsOf list) (Leads (cell n (f .points) table′)) 0 u v
