@@ -1,0 +1,133 @@
+-- The contract of `fold` fixes its outcome.
+--   fold-determined : two outcomes that conform on one input are equal, answer and cells
+-- One subgroup has one table, the room behind its points is absent, and every complete folding has the same counts. Assumes nothing.
+use mathlib.Core.Path.{_≡_, refl, sym, _∙_, ap, subst, fun-ext}
+use mathlib.Core.Logic.{by-cases}
+use mathlib.Core.Bool.{true}
+use mathlib.Core.Option.{Option, none, some}
+use mathlib.Core.List.{List}
+use Prim.Native.Nat.{ℕ, _*_, _≤_}
+use native.Mathlib.Decide.{decLt}
+use native.Mathlib.Omega.{arith}
+use lib.ListN.{length}
+use borrow.Author.Tests.{lt-ltb, le-ltb}
+use Rattle.theory.specs.Letters.{wordsOf}
+use Rattle.theory.specs.Refusals.{Refusal as FirstCause, textRefusal}
+use Rattle.theory.specs.Tables.{absent, Cells, cell}
+use Rattle.theory.specs.Graphs.{startGraph}
+use Rattle.theory.proofs.FoldCounts.{folding-exists}
+use Rattle.theory.proofs.Main.{tables-equal-iff-same-subgroup}
+use Rattle.engine.specs.Work.{Holds}
+use Rattle.engine.proofs.HoldLaws.{holds-first}
+use Rattle.tables.specs.Checks.{figuresAs}
+use Rattle.numbering.specs.Numbered.{Inverse, Roomed}
+use Rattle.numbering.proofs.StepLaws.{cell-read}
+use Rattle.numbering.proofs.Determined.{holds-determined}
+use Rattle.folds.specs.declared.FoldFigures.{FoldFigures}
+use Rattle.folds.specs.declared.Folded.{Folded}
+use Rattle.folds.specs.declared.Folded.the-variants.{Made}
+use Rattle.folds.specs.Causes.{rowsOf, foldRefusal}
+use Rattle.folds.specs.Folds.{Cleared, Done, OutcomeFor, FoldOutcome}
+use Rattle.folds.proofs.CauseLaws.{fine-alphabet, rows-few, fold-fine}
+
+-- the cells of the room are those of the table
+room-cells : {n R N : ℕ} {table work table′ work′ : List ℕ}
+    → n ≤ 26 → R * (2 * n) ≤ length table → Cleared n R N table work table′ work′ → cell n R table′ ≡ cell n N table′
+unfolding cell
+room-cells {n} {R} {N} {table} {work} {table′} {work′} most lent c = fun-ext (λ v. fun-ext (λ y. at v y))
+  where
+    all : R * (2 * n) ≤ length table′
+    all = omega (arith, lent, c .same)
+
+    outside : (v y : ℕ) → N ≤ v → cell n R table′ v y ≡ absent
+    outside v y h =
+        by-cases (decLt v R)
+        (λ a. by-cases (decLt y (2 * n))
+        (λ b. sym (cell-read {t = table′} (record { most = most; lent = all; point = a; letter = b })) ∙ c .unused v y h a b)
+        (λ b. rw (lt-ltb v R a, le-ltb y (2 * n) (omega arith))))
+        (λ a. rw (le-ltb v R (omega arith)))
+
+    at : (v y : ℕ) → cell n R table′ v y ≡ cell n N table′ v y
+    at v y =
+        by-cases (decLt v N) (λ h. rw (lt-ltb v N h, lt-ltb v R (omega (arith, h, c .used))))
+        (λ h. outside v y (omega arith) ∙ sym (rw (le-ltb v N (omega arith))))
+
+module _ {n : ℕ} {list table work : List ℕ} {f g : FoldFigures} {t₁ w₁ t₂ w₂ : List ℕ}
+    (clear : foldRefusal n list (length table) (length work) ≡ none)
+    (h : Done n list table work f t₁ w₁) (k : Done n list table work g t₂ w₂) where
+  same-table : (f .points ≡ g .points) × ((v y : ℕ) → cell n (f .points) t₁ v y ≡ cell n (g .points) t₂ v y)
+  same-table =
+      tables-equal-iff-same-subgroup (h .subgroup) (k .subgroup) .1 (record { onward = λ q m. m; back = λ q m. m })
+
+  same-cells : t₁ ≡ t₂
+  same-cells = holds-determined room (holds-first n (rowsOf list) t₁) other
+    where
+      fine : (textRefusal n true list ≡ none) × (rowsOf list * (2 * n) ≤ length table) × (8 * rowsOf list ≤ length work)
+      fine = fold-fine n list (length table) (length work) clear
+
+      most : n ≤ 26
+      most = fine-alphabet n list (fine .0) .1
+
+      first : cell n (rowsOf list) t₁ ≡ cell n (f .points) t₁
+      first = room-cells most (fine .1) (h .cleared)
+
+      second : cell n (rowsOf list) t₂ ≡ cell n (g .points) t₂
+      second = room-cells most (fine .1) (k .cleared)
+
+      room : Roomed n (rowsOf list) t₁
+      room =
+          record {
+            inverse = subst Inverse (sym first) (h .subgroup .canonical .inverse);
+            some = fine-alphabet n list (fine .0) .0;
+            most = most;
+            fits = rows-few n list (fine .0);
+            lent = omega (arith, fine .1, h .cleared .same);
+          }
+
+      other : Holds n (rowsOf list) t₁ (cell n (rowsOf list) t₁) t₂
+      other =
+          record {
+            same = k .cleared .same ∙ sym (h .cleared .same);
+            cells = λ v y. ap (λ (c : Cells). c v y) second ∙ sym (ap (λ (c : Cells). c v y) first ∙ same-table .1 v y);
+            rest = k .cleared .rest ∙ sym (h .cleared .rest);
+          }
+
+  same-figures : f ≡ g
+  same-figures =
+      λ i. record { points = same-table .0 i; counts = counts i; start = start i; merging = folds .0 i; closing = folds .1 i }
+    where
+      counts : f .counts ≡ g .counts
+      counts =
+          h .counts ∙ ap (λ N. figuresAs n N t₁) (same-table .0) ∙ ap (figuresAs n (g .points)) same-cells ∙ sym (k .counts)
+
+      points : f .start .points ≡ g .start .points
+      points = h .start-points ∙ sym (k .start-points)
+
+      edges : f .start .edges ≡ g .start .edges
+      edges = h .start-edges ∙ sym (k .start-edges)
+
+      start : f .start ≡ g .start
+      start = λ i. record { points = points i; edges = edges i }
+
+      folds : (f .merging ≡ g .merging) × (f .closing ≡ g .closing)
+      folds =
+          let x = folding-exists (startGraph (wordsOf list)) in
+          let a = h .folds (x .0) (x .1) (x .2) (x .3) in
+          let b = k .folds (x .0) (x .1) (x .2) (x .3) in
+          (a .0 ∙ sym (b .0), a .1 ∙ sym (b .1))
+
+pub fold-determined : (n : ℕ) (list table work : List ℕ) {r s : Folded} {table₁ work₁ table₂ work₂ : List ℕ}
+    → FoldOutcome n list table work r table₁ work₁ → FoldOutcome n list table work s table₂ work₂
+    → (r ≡ s) × (table₁ ≡ table₂) × (work₁ ≡ work₂)
+fold-determined n list table work {r} {s} {table₁} {work₁} {table₂} {work₂} =
+    go (foldRefusal n list (length table) (length work)) refl
+  where
+    go : (o : Option FirstCause) → foldRefusal n list (length table) (length work) ≡ o
+        → OutcomeFor n list table work o r table₁ work₁ → OutcomeFor n list table work o s table₂ work₂
+        → (r ≡ s) × (table₁ ≡ table₂) × (work₁ ≡ work₂)
+    go none e h k = (
+      h .1 ∙ ap Made (same-figures e (h .2) (k .2)) ∙ sym (k .1),
+      same-cells e (h .2) (k .2),
+      h .2 .cleared .zeros ∙ sym (k .2 .cleared .zeros),
+    )
+    go (some c) e h k = (h .0 ∙ sym (k .0), h .1 ∙ sym (k .1), h .2 ∙ sym (k .2))
