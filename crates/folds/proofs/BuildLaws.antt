@@ -223,7 +223,7 @@ module _ {n : ℕ} {list table work : List ℕ} (h : Foldable n list table work)
               used = number-fits number-ready some m;
               same = table-same;
               unused = λ v y a b c.
-                  cell-here (record { most = sizes .1; row = b; letter = c; lent = subst (λ j. rows * (2 * n) ≤ j) (sym table-same) fill-asks })
+                  cell-here {r = room} (record { most = sizes .1; row = b; letter = c; lent = subst (λ j. rows * (2 * n) ≤ j) (sym table-same) fill-asks })
                   ∙ absent-unless (cell n rows t₃) v y (λ d. omega (arith, empty v y d .0));
               rest = m .table .rest ∙ k .table-rest ∙ ap (drop (rows * (2 * n))) et ∙ filled-drop (rows * (2 * n)) absent table;
               zeros = ez ∙ ap (λ l. replicate (8 * rows) 0 ++ l) behind;

@@ -22,7 +22,9 @@ use Rattle.theory.specs.Folds.{CompleteFolding}
 use Rattle.theory.proofs.RefusalLaws.{alphabet-in}
 use Rattle.theory.proofs.TableRefusalLaws.{text-alphabet, in-lent}
 use Rattle.theory.proofs.CanonicalLaws.{table-canonical-none}
+use Rattle.theory.proofs.StartLaws.{reducedLength-written, written-letters}
 use Rattle.theory.proofs.FoldCounts.{folding-exists}
+use Rattle.engine.proofs.TableExists.{list-short}
 use Rattle.theory.proofs.Main.{fold-counts, start-graph-sizes}
 use Rattle.cells.specs.Filled.{filled}
 use Rattle.cells.proofs.FillTurn.{length-filled, filled-drop}
@@ -118,6 +120,11 @@ module _ {n : ℕ} {list table work : List ℕ} (h : Foldable n list table work)
   pub build-asks : Foldable n list table w₁
   build-asks = record { fine = h .fine; rows = h .rows; room = omega (arith, start-long, h .room) }
 
+  -- the start graph is small
+  pub start-small : st .edges ≤ 1048576
+  start-small =
+      omega (arith, p .edges, start-graph-sizes (wordsOf list) .0, reducedLength-written (wordsOf list), written-letters list, list-short n list (h .fine))
+
   module _ {N : ℕ} {t w : List ℕ} (b : Built n list table w₁ N t w) where
     ws : List (List ℕ)
     ws = wordsOf list
@@ -193,7 +200,7 @@ module _ {n : ℕ} {list table work : List ℕ} (h : Foldable n list table work)
 
       pub made-outcome
           : FoldOutcome n list table work
-            (Made (record { points = N; counts = cs; start = st; merging = st .points - N; closing = st .edges + 1 - st .points - cs .rank })) t w
+          (Made (record { points = N; counts = cs; start = st; merging = st .points - N; closing = st .edges + 1 - st .points - cs .rank })) t w
       unfolding ws
       made-outcome =
           subst (λ o. OutcomeFor n list table work o (Made made) t w) (sym (not-refused h)) (made, refl, done)

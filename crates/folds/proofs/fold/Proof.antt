@@ -1,3 +1,7 @@
+-- `folds::fold` meets its contract: the refusal of the list, or what is said of a list that is fine (`LentLaws`).
+-- Assumes nothing.
+use Rattle.folds.proofs.LentLaws.{scan-refused, scan-fine}
+use mathlib.Core.List.{[]}
 use borrow.Author.Needs.{needs}
 use Rattle.folds.proofs.fold.Statement.{statement}
 use Rattle.folds.proofs.fold.Tie as tie
@@ -20,11 +24,11 @@ enum-told c = search needs
 
 -- src/lib.rt:104:26
 fold-text-requires : tie.Need-fold-text-requires
-fold-text-requires c κs = search needs
+fold-text-requires c κs = scan-fine _ _ [] [] (c .before .before .before .before .scan .ensures) (c .before .before .enum-told .given .1)
 
 -- src/lib.rt:99:1
 returns : tie.Need-returns
-returns c = search needs
+returns c = scan-refused _ _ (c .before .before .before .before .before .before .before .args .table .now) (c .before .before .before .before .before .before .before .args .work .now) (c .before .before .before .scan .ensures) (c .before .r .given .1)
 
 -- src/lib.rt:99:1
 same-length : tie.Need-same-length

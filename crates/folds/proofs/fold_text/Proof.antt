@@ -1,3 +1,10 @@
+-- `folds::fold_text` meets its contract: 6, 7 or the fold (`LentLaws`).
+-- Assumes nothing.
+use Rattle.folds.proofs.LentLaws.{few, small, six, seven, foldable}
+use native.Mathlib.Omega.{arith}
+use Prim.Native.Nat.{_+_}
+use mathlib.Core.List.{[]}
+use mathlib.Core.Path.{ap}
 use borrow.Author.Needs.{needs}
 use Rattle.folds.proofs.fold_text.Statement.{statement}
 use Rattle.folds.proofs.fold_text.Tie as tie
@@ -13,15 +20,15 @@ letters-in-requires c κs = search needs
 
 -- src/lib.rt:88:16
 add-rows : tie.Need-add-rows
-add-rows c = search needs
+add-rows c = record { fits = omega (arith, few _ _ [] [] (c .before .before .before .before .pre) (ap (λ k. k + 1) (c .letters-in .ensures))) }
 
 -- src/lib.rt:89:30
 mul-if1 : tie.Need-mul-if1
-mul-if1 c = search needs
+mul-if1 c = record { fits = omega (arith, small _ _ [] [] (c .before .before .before .before .pre) (ap (λ k. k + 1) (c .letters-in .ensures)) .0) }
 
 -- src/lib.rt:89:22
 mul-if1-2 : tie.Need-mul-if1-2
-mul-if1-2 c = search needs
+mul-if1-2 c = record { fits = omega (arith, small _ _ [] [] (c .before .before .before .before .pre) (ap (λ k. k + 1) (c .letters-in .ensures)) .1) }
 
 -- src/lib.rt:90:32
 refuse-requires : tie.Need-refuse-requires
@@ -29,15 +36,15 @@ refuse-requires c κs = search needs
 
 -- src/lib.rt:90:9
 returns : tie.Need-returns
-returns c = search needs
+returns c = six _ _ (c .before .before .before .before .before .before .args .table .now) (c .before .before .before .before .before .before .args .work .now) (c .before .before .before .before .before .before .pre) (ap (λ k. k + 1) (c .before .before .letters-in .ensures)) (c .before .if1 .taken) (c .refuse .ensures)
 
 -- src/lib.rt:92:21
 mul-if2 : tie.Need-mul-if2
-mul-if2 c = search needs
+mul-if2 c = record { fits = omega (arith, few _ _ [] [] (c .before .before .before .before .before .pre) (ap (λ k. k + 1) (c .before .letters-in .ensures))) }
 
 -- src/lib.rt:93:53
 mul-refuse : tie.Need-mul-refuse
-mul-refuse c = search needs
+mul-refuse c = record { fits = omega (arith, few _ _ [] [] (c .before .before .before .before .before .before .pre) (ap (λ k. k + 1) (c .before .before .letters-in .ensures))) }
 
 -- src/lib.rt:93:32
 refuse-requires-2 : tie.Need-refuse-requires-2
@@ -45,11 +52,11 @@ refuse-requires-2 c κs = search needs
 
 -- src/lib.rt:93:9
 returns-2 : tie.Need-returns-2
-returns-2 c = search needs
+returns-2 c = seven _ _ (c .before .before .before .before .before .before .before .args .table .now) (c .before .before .before .before .before .before .before .args .work .now) (c .before .before .before .before .before .before .before .pre) (ap (λ k. k + 1) (c .before .before .before .letters-in .ensures)) (c .before .before .if1 .left) (c .before .if2 .taken) (c .refuse2 .ensures)
 
 -- src/lib.rt:95:5
 fold-lent-requires : tie.Need-fold-lent-requires
-fold-lent-requires c κs = search needs
+fold-lent-requires c κs = foldable _ _ _ _ (c .before .before .before .before .before .before .before .before .pre) (ap (λ k. k + 1) (c .before .before .before .before .letters-in .ensures)) (c .before .before .before .if1 .left) (c .before .before .if2 .left)
 
 -- src/lib.rt:84:1
 same-length : tie.Need-same-length
