@@ -52,7 +52,8 @@ fn build(n: usize, list: &[u8], table: &mut [u32], work: &mut [u32]) -> usize
     requires { ⌜ Foldable n (now list) (now table) (now work) ⌝ }
     ensures built { λ r. ⌜ Built n (now (list .entry)) (now (table .entry)) (now (work .entry)) r (now (table .exit)) (now (work .exit)) ⌝ }
 {
-    let rows = lists::letters_in(list) + 1;
+    let letters = lists::letters_in(list);
+    let rows = letters + 1;
     cells::fill(table, rows * (2 * n), ABSENT);
     cells::fill(work, 1, 0);
     take_words(table, work, Room { n, rows, made: 1 }, list);
