@@ -1,0 +1,3 @@
+-- Replies: what an outcome becomes, and what the contract fixes.
+pub mod ReplyLaws
+pub mod Determined
