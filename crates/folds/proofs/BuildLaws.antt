@@ -20,7 +20,7 @@ use Rattle.theory.specs.Tables.{absent, Cells, cell}
 use Rattle.theory.specs.Canonical.{Canonical}
 use Rattle.theory.specs.Graphs.{startPoints}
 use Rattle.theory.specs.Subgroups.{AcceptsExactly, TableOf}
-use Rattle.theory.proofs.TableLaws.{Bounded, cell-in, cell-bounded, length-usual, getD-usual}
+use Rattle.theory.proofs.TableLaws.{Bounded, cell-in, cell-here, row-below, cell-bounded, length-usual, getD-usual}
 use Rattle.theory.proofs.RefusalLaws.{alphabet-in}
 use Rattle.theory.proofs.TableRefusalLaws.{text-alphabet}
 use Rattle.cells.specs.Filled.{filled}
@@ -38,8 +38,6 @@ use Rattle.engine.proofs.TableExists.{good-words, all-words, list-points, list-
 use Rattle.rooms.specs.declared.Room.{Room}
 use Rattle.rooms.specs.Rooms.{stateIn, withMade, Lent}
 use Rattle.rooms.proofs.UniteLaws.{drop-behind}
-use Rattle.links.specs.Links.{InTable}
-use Rattle.links.proofs.LinkLaws.{cell-here, row-below}
 use Rattle.numbering.specs.Numbered.{Roomed, NumberedIn}
 use Rattle.numbering.proofs.Numbers.{number-canonical, number-bounded, number-base, number-fits, number-exact}
 use Rattle.folds.specs.Causes.{rowsOf, workOf}
@@ -223,7 +221,7 @@ module _ {n : ℕ} {list table work : List ℕ} (h : Foldable n list table work)
               used = number-fits number-ready some m;
               same = table-same;
               unused = λ v y a b c.
-                  cell-here {r = room} (record { most = sizes .1; row = b; letter = c; lent = subst (λ j. rows * (2 * n) ≤ j) (sym table-same) fill-asks })
+                  cell-here n rows t₃ v y b c (subst (λ j. rows * (2 * n) ≤ j) (sym table-same) fill-asks)
                   ∙ absent-unless (cell n rows t₃) v y (λ d. omega (arith, empty v y d .0));
               rest = m .table .rest ∙ k .table-rest ∙ ap (drop (rows * (2 * n))) et ∙ filled-drop (rows * (2 * n)) absent table;
               zeros = ez ∙ ap (λ l. replicate (8 * rows) 0 ++ l) behind;

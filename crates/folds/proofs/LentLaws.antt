@@ -1,7 +1,7 @@
 -- What the parts of `fold` say, on plain values.
 --   not-refused  : what is lent is enough
 --   build-asks, made-outcome, never-refused : the outcome of `fold_lent`
---   six, seven   : the refusals of `fold_text`; scan-refused, scan-fine : those of the list
+--   six, seven   : the refusals of `fold_text`; scan-refused : those of the list
 -- Assumes nothing.
 use mathlib.Core.Path.{_≡_, refl, sym, _∙_, ap, subst}
 use mathlib.Core.Bool.{true, false, not}
@@ -54,13 +54,6 @@ module _ (n : ℕ) (list table work : List ℕ) where
       → FoldOutcome n list table work (Refused r) table work
   refused c {r} e g =
       subst (λ o. OutcomeFor n list table work o (Refused r) table work) (sym e) (ap Refused g, refl, refl)
-
-  pub scan-fine : {s : Scanned} → s ≡ scannedAs (textRefusal n true list) → s ≡ ScannedFine → textRefusal n true list ≡ none
-  scan-fine {s} e f = go (textRefusal n true list) (sym f ∙ e)
-    where
-      go : (o : Option FirstCause) → ScannedFine ≡ scannedAs o → o ≡ none
-      go none z = refl
-      go (some c) z = absurd (let y : _≡_ {A = ℕ} 0 1 = cc in omega arith)
 
   pub scan-refused : {s : Scanned} {r : Refusal} → s ≡ scannedAs (textRefusal n true list) → s ≡ ScannedRefused r
       → FoldOutcome n list table work (Refused r) table work

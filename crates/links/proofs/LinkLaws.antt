@@ -1,5 +1,5 @@
 -- Edges in lent cells on plain values: what each operation's parts ask and leave.
---   row-below, cell-here : where a cell of the room stands
+--   row-fits, cell-there : where a cell of the room stands
 --   from-in, to-in, holds-in : cells of the room, also once the table has changed
 --   link-free, link-taken, link-back : the three outcomes of `link`
 --   edge-of, move-usable, move-ends, move-left : the parts of `move_edge`
@@ -9,7 +9,6 @@ use mathlib.Core.Logic.{by-cases}
 use mathlib.Core.Bool.{cond, _&&_}
 use mathlib.Core.List.{List, [], _∷_}
 use Prim.Native.Nat.{ℕ, zero, suc, _+_, _*_, _≤_, _<_}
-use native.Mathlib.Nat.{mul-le-mul-right, suc-mul}
 use native.Mathlib.Decide.{ℕ-discrete}
 use native.Mathlib.Omega.{arith}
 use lib.Dec.{eqb}
@@ -17,7 +16,7 @@ use lib.ListN.{length, getD, set}
 use borrow.Author.Tests.{eq-eqb, ne-eqb}
 use Rattle.theory.specs.Words.{inv}
 use Rattle.theory.specs.Tables.{absent, Cells, Leads, cell}
-use Rattle.theory.proofs.TableLaws.{cell-in}
+use Rattle.theory.proofs.TableLaws.{row-below, cell-here}
 use Rattle.engine.specs.Cells.{put, linked, unlinked}
 use Rattle.engine.specs.Engine.{State, withCells, united, joined, moved, farEnd}
 use Rattle.engine.specs.Work.{Holds}
@@ -31,24 +30,12 @@ use Rattle.rooms.specs.Rooms.{stateIn, Lent, Usable, Left}
 use Rattle.rooms.proofs.RoomLaws.{left-first, left-cells, left-united, left-as, left-then, left-lent}
 use Rattle.links.specs.Links.{InTable, Edge, Ends}
 
--- the cells of a row that is there are there
-pub row-below : (N w v : ℕ) → v < N → v * w + w ≤ N * w
-row-below N w v h = subst (λ k. k ≤ N * w) (suc-mul v w) (mul-le-mul-right w h)
-
--- what stands at a place that is there does not depend on what stands beyond the end
-getD-there : (l : List ℕ) (i d e : ℕ) → i < length l → getD l i d ≡ getD l i e
-getD-there [] i d e h = absurd (omega arith)
-getD-there (x ∷ l) zero d e h = refl
-getD-there (x ∷ l) (suc i) d e h = getD-there l i d e (omega arith)
-
 module _ {r : Room} {t : List ℕ} {v y : ℕ} (h : InTable r t v y) where
   pub row-fits : v * (2 * r .n) + 2 * r .n ≤ length t
   row-fits = omega (arith, row-below (r .rows) (2 * r .n) v (h .row), h .lent)
 
-  pub cell-here : getD t (v * (2 * r .n) + y) 0 ≡ cell (r .n) (r .rows) t v y
-  cell-here =
-      getD-there t (v * (2 * r .n) + y) 0 absent (omega (arith, row-fits, h .letter))
-      ∙ sym (cell-in (r .n) (r .rows) t v y (h .row) (h .letter))
+  pub cell-there : getD t (v * (2 * r .n) + y) 0 ≡ cell (r .n) (r .rows) t v y
+  cell-there = cell-here (r .n) (r .rows) t v y (h .row) (h .letter) (h .lent)
 
   pub put-here : (x : ℕ) {after : List ℕ} → after ≡ set t (v * (2 * r .n) + y) x
       → Holds (r .n) (r .rows) t (put (cell (r .n) (r .rows) t) v y x) after

@@ -111,3 +111,12 @@ module _ (n : ℕ) (lines : Bool) (text : List ℕ) where
       go : (o : Option FirstCause) → Fine ≡ scannedAs o → scannedAs (lastOf lines text) ≡ scannedAs (orElse o (lastOf lines text))
       go none p = refl
       go (some f) p = cc
+
+-- a scan that says fine has found nothing
+pub scan-fine : (n : ℕ) (lines : Bool) (text : List ℕ) {s : Scanned} → s ≡ scannedAs (textRefusal n lines text) → s ≡ Fine
+    → textRefusal n lines text ≡ none
+scan-fine n lines text {s} e f = go (textRefusal n lines text) (sym f ∙ e)
+  where
+    go : (o : Option FirstCause) → Fine ≡ scannedAs o → o ≡ none
+    go none z = refl
+    go (some c) z = absurd (let y : _≡_ {A = ℕ} 0 1 = cc in omega arith)

@@ -181,13 +181,6 @@ fine n N t query room e =
     letters : (1 ≤ n) × (n ≤ 26)
     letters = alphabet-in n (alphabet-of n query (a .0))
 
-pub scan-fine : (n : ℕ) (query : List ℕ) {s : Scanned} → s ≡ scannedAs (textRefusal n false query) → s ≡ ScannedFine → textRefusal n false query ≡ none
-scan-fine n query {s} e f = go (textRefusal n false query) (sym f ∙ e)
-  where
-    go : (o : Option FirstCause) → ScannedFine ≡ scannedAs o → o ≡ none
-    go none z = refl
-    go (some c) z = absurd (let y : _≡_ {A = ℕ} 0 1 = cc in omega arith)
-
 module _ (n N : ℕ) (t query work : List ℕ) where
   -- the work has room for the query's word, and holds what is left of it
   pub reduce-room : memberRefusal n N t query (length work) ≡ none → wordLength query ≤ length work

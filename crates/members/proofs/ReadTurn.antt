@@ -4,7 +4,6 @@ use mathlib.Core.Path.{_≡_, refl, sym, _∙_, ap, subst}
 use mathlib.Core.Logic.{by-cases}
 use mathlib.Core.List.{List, [], _∷_}
 use Prim.Native.Nat.{ℕ, zero, suc, _+_, _*_, _≤_, _<_}
-use native.Mathlib.Nat.{mul-le-mul-right, suc-mul}
 use native.Mathlib.Decide.{ℕ-discrete}
 use native.Mathlib.Numerals.{add-one}
 use native.Mathlib.Omega.{arith}
@@ -20,20 +19,6 @@ use Rattle.members.specs.declared.Reading.{Reading}
 use Rattle.members.specs.declared.Reading.the-variants.{Stopped, Ended}
 
 -- ── One cell ──
-
--- the cells of a row that is there are there
-pub row-below : (N w v : ℕ) → v < N → v * w + w ≤ N * w
-row-below N w v h = subst (λ k. k ≤ N * w) (suc-mul v w) (mul-le-mul-right w h)
-
--- what stands at a place that is there does not depend on what stands beyond the end
-getD-there : (l : List ℕ) (i d e : ℕ) → i < length l → getD l i d ≡ getD l i e
-getD-there [] i d e h = absurd (omega arith)
-getD-there (x ∷ l) zero d e h = refl
-getD-there (x ∷ l) (suc i) d e h = getD-there l i d e (omega arith)
-
-pub cell-here : (n N : ℕ) (t : List ℕ) (v y : ℕ) → v < N → y < 2 * n → N * (2 * n) ≤ length t → getD t (v * (2 * n) + y) 0 ≡ cell n N t v y
-cell-here n N t v y hv hy h =
-    getD-there t (v * (2 * n) + y) 0 absent (omega (arith, row-below N (2 * n) v hv)) ∙ sym (cell-in n N t v y hv hy)
 
 pub cell-beyond : (n N : ℕ) (t : List ℕ) (v y : ℕ) → 2 * n ≤ y → absent ≡ cell n N t v y
 cell-beyond n N t v y h =

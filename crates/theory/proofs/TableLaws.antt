@@ -1,6 +1,7 @@
 -- Laws of cells and of the usual letter order (`specs/Tables`, `specs/Letters`).
 --   Bounded c N ys <-> only the N rows and the letters ys have cells that are not absent
 --   Once ys        <-> no letter stands twice in ys
+--   row-below, cell-here : where a row ends, and where a cell stands
 -- The laws of tables take these two of any letter order; `cell-bounded` and `usual-once` give them for document 01's.
 -- Assumes nothing.
 use mathlib.Core.Path.{_≡_, refl, sym, _∙_, ap}
@@ -8,7 +9,7 @@ use mathlib.Core.Logic.{by-cases}
 use mathlib.Core.Bool.{Bool, true, false, cond, _&&_}
 use mathlib.Core.List.{List, [], _∷_, _++_}
 use Prim.Native.Nat.{ℕ, zero, suc, _+_, _*_, _<_, _≤_}
-use native.Mathlib.Nat.{add-zero}
+use native.Mathlib.Nat.{add-zero, mul-le-mul-right, suc-mul}
 use native.Mathlib.Decide.{ℕ-discrete}
 use native.Mathlib.Numerals.{add-one}
 use native.Mathlib.Omega.{arith}
@@ -68,3 +69,18 @@ cell-bounded n N t v y h =
     let hy = ltb-true y (2 * n) (a .1) in
     (ltb-true v N (a .0), (y, omega (arith, length-usual n), getD-usual n y hy)))
     (λ e. absurd (h (rw e)))
+
+-- the cells of a row that is there are there
+pub row-below : (N w v : ℕ) → v < N → v * w + w ≤ N * w
+row-below N w v h = omega (arith, mul-le-mul-right w h, suc-mul v w)
+
+-- what stands at a place that is there does not depend on what stands beyond the end
+getD-there : (l : List ℕ) (i d e : ℕ) → i < length l → getD l i d ≡ getD l i e
+getD-there [] i d e h = absurd (omega arith)
+getD-there (x ∷ l) zero d e h = refl
+getD-there (x ∷ l) (suc i) d e h = getD-there l i d e (omega arith)
+
+-- where a cell stands
+pub cell-here : (n N : ℕ) (t : List ℕ) (v y : ℕ) → v < N → y < 2 * n → N * (2 * n) ≤ length t → getD t (v * (2 * n) + y) 0 ≡ cell n N t v y
+cell-here n N t v y hv hy h =
+    getD-there t (v * (2 * n) + y) 0 absent (omega (arith, row-below N (2 * n) v hv)) ∙ sym (cell-in n N t v y hv hy)

@@ -1,6 +1,8 @@
 -- `folds::fold` meets its contract: the refusal of the list, or what is said of a list that is fine (`LentLaws`).
 -- Assumes nothing.
-use Rattle.folds.proofs.LentLaws.{scan-refused, scan-fine}
+use mathlib.Core.Bool.{true}
+use Rattle.lists.proofs.ScanTurn.{scan-fine}
+use Rattle.folds.proofs.LentLaws.{scan-refused}
 use mathlib.Core.List.{[]}
 use borrow.Author.Needs.{needs}
 use Rattle.folds.proofs.fold.Statement.{statement}
@@ -24,7 +26,7 @@ enum-told c = search needs
 
 -- src/lib.rt:104:26
 fold-text-requires : tie.Need-fold-text-requires
-fold-text-requires c κs = scan-fine _ _ [] [] (c .before .before .before .before .scan .ensures) (c .before .before .enum-told .given .1)
+fold-text-requires c κs = scan-fine _ true _ (c .before .before .before .before .scan .ensures) (c .before .before .enum-told .given .1)
 
 -- src/lib.rt:99:1
 returns : tie.Need-returns

@@ -1,6 +1,6 @@
 -- `links::cell_at` meets its contract.
 -- Assumes nothing.
-use Rattle.links.proofs.LinkLaws.{row-fits, cell-here}
+use Rattle.links.proofs.LinkLaws.{row-fits, cell-there}
 use native.Mathlib.Omega.{arith}
 use Prim.Native.Nat.{_*_}
 use borrow.Author.Needs.{needs}
@@ -31,7 +31,7 @@ shared-slice-read-result c = omega (arith, row-fits (c .before .before .pre), c 
 
 -- src/lib.rt:16:1
 returns : tie.Need-returns
-returns c = cell-here (c .before .before .pre)
+returns c = cell-there (c .before .before .pre)
 
 pub cell-at-spec : {M : Type 1} → statement M
 cell-at-spec =

@@ -1,6 +1,8 @@
 -- `members::member` meets its contract. The refusal of the query, or what is said of a query that is fine (`AnswerLaws`).
 -- Assumes nothing.
-use Rattle.members.proofs.AnswerLaws.{scan-refused, scan-fine}
+use mathlib.Core.Bool.{false}
+use Rattle.lists.proofs.ScanTurn.{scan-fine}
+use Rattle.members.proofs.AnswerLaws.{scan-refused}
 use borrow.Author.Needs.{needs}
 use Rattle.members.proofs.member.Statement.{statement}
 use Rattle.members.proofs.member.Tie as tie
@@ -15,7 +17,7 @@ enum-told : tie.Need-enum-told
 enum-told c = search needs
 
 member-of-text-requires : tie.Need-member-of-text-requires
-member-of-text-requires c κs = scan-fine _ _ (c .before .before .before .scan .ensures) (c .before .enum-told .given .1)
+member-of-text-requires c κs = scan-fine _ false _ (c .before .before .before .scan .ensures) (c .before .enum-told .given .1)
 
 returns : tie.Need-returns
 returns c = scan-refused _ _ _ _ _ (c .before .before .before .scan .ensures) (c .before .r .given .1)

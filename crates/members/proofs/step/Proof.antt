@@ -2,7 +2,8 @@
 -- Assumes nothing.
 use Prim.Native.Nat.{_*_}
 use native.Mathlib.Omega.{arith}
-use Rattle.members.proofs.ReadTurn.{row-below, cell-here, cell-beyond}
+use Rattle.theory.proofs.TableLaws.{row-below, cell-here}
+use Rattle.members.proofs.ReadTurn.{cell-beyond}
 use borrow.Author.Needs.{needs}
 use Rattle.members.proofs.step.Statement.{statement}
 use Rattle.members.proofs.step.Tie as tie
