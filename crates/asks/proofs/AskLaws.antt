@@ -14,9 +14,8 @@ use native.Mathlib.Nat.{mul-le-mul-right}
 use native.Mathlib.Omega.{arith}
 use lib.ListN.{length, drop, replicate}
 use borrow.Author.Tests.{lt-ltb, le-ltb}
-use Rattle.theory.specs.Letters.{lettersIn, wordsOf}
-use Rattle.theory.specs.Words.{Member}
-use Rattle.theory.specs.Refusals.{Refusal as FirstCause, orElse, refusedIf, textRefusal}
+use Rattle.theory.specs.Letters.{wordsOf}
+use Rattle.theory.specs.Refusals.{Refusal as FirstCause, textRefusal}
 use Rattle.theory.specs.TableRefusals.{isLent, cellRefusal, memberRefusal}
 use Rattle.theory.specs.Tables.{cell, isAccepted}
 use Rattle.theory.proofs.RefusalLaws.{alphabet-in}

@@ -5,7 +5,7 @@
 --   ask-exact              : then the answer is Inside exactly if the query is a member, else Outside
 -- Assumes nothing.
 use mathlib.Core.Path.{_≡_, refl, sym, _∙_, ap, subst}
-use mathlib.Core.Logic.{_⊎_, ⊎-elim, _↔_}
+use mathlib.Core.Logic.{⊎-elim, _↔_}
 use mathlib.Core.Option.{Option, none, some}
 use mathlib.Core.List.{List}
 use Prim.Native.Nat.{ℕ}

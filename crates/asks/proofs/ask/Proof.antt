@@ -5,10 +5,6 @@ use Rattle.asks.proofs.AskLaws.{scan-refused, scan-fine}
 use borrow.Author.Needs.{needs}
 use Rattle.asks.proofs.ask.Statement.{statement}
 use Rattle.asks.proofs.ask.Tie as tie
-use Rattle.asks.proofs.ask.Reads as reads
-use Rattle.asks.proofs.ask.Lts as lts
-use Rattle.asks.proofs.ask_texts.Reads as ask-texts-reads
-use Rattle.asks.proofs.scan_both.Reads as scan-both-reads
 
 -- src/lib.rt:76:11
 scan-both-requires : tie.Need-scan-both-requires

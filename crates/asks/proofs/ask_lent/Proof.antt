@@ -4,10 +4,6 @@ use Rattle.asks.proofs.AskLaws.{build-asks, answered}
 use borrow.Author.Needs.{needs}
 use Rattle.asks.proofs.ask_lent.Statement.{statement}
 use Rattle.asks.proofs.ask_lent.Tie as tie
-use Rattle.asks.proofs.ask_lent.Reads as reads
-use Rattle.asks.proofs.ask_lent.Lts as lts
-use Rattle.folds.proofs.build.Reads as build-reads
-use Rattle.members.proofs.member.Reads as member-reads
 
 -- src/lib.rt:51:18
 build-requires : tie.Need-build-requires

@@ -8,12 +8,6 @@ use Rattle.asks.proofs.AskLaws.{few, small, six, seven, askable}
 use borrow.Author.Needs.{needs}
 use Rattle.asks.proofs.ask_texts.Statement.{statement}
 use Rattle.asks.proofs.ask_texts.Tie as tie
-use Rattle.asks.proofs.ask_texts.Reads as reads
-use Rattle.asks.proofs.ask_texts.Lts as lts
-use Rattle.asks.proofs.ask_lent.Reads as ask-lent-reads
-use Rattle.asks.proofs.greater.Reads as greater-reads
-use Rattle.lists.proofs.letters_in.Reads as letters-in-reads
-use Rattle.refusals.proofs.refuse.Reads as refuse-reads
 
 -- src/lib.rt:60:16
 letters-in-requires : tie.Need-letters-in-requires
@@ -53,11 +47,11 @@ refuse-requires-2 c κs = search needs
 
 -- src/lib.rt:66:9
 returns-2 : tie.Need-returns-2
-returns-2 c = seven _ _ _ (c .before .before .before .before .before .before .before .before .before .args .table .now) (c .before .before .before .before .before .before .before .before .before .args .work .now) (c .before .before .before .before .before .before .before .before .before .pre) (ap (λ k. k + 1) (c .before .before .before .before .letters-in .ensures)) (c .before .before .greater .ensures) (c .before .before .before .if1 .left) (c .before .if2 .taken) (c .refuse2 .ensures)
+returns-2 c = seven _ _ _ (c .before .before .before .before .before .before .before .before .before .args .table .now) (c .before .before .before .before .before .before .before .before .before .args .work .now) (c .before .before .before .before .before .before .before .before .before .pre) (ap (λ k. k + 1) (c .before .before .before .before .letters-in .ensures)) (omega (arith, c .before .before .greater .ensures)) (c .before .before .before .if1 .left) (c .before .if2 .taken) (c .refuse2 .ensures)
 
 -- src/lib.rt:68:5
 ask-lent-requires : tie.Need-ask-lent-requires
-ask-lent-requires c κs = askable _ _ _ _ _ (c .before .before .before .before .before .before .before .before .before .before .pre) (ap (λ k. k + 1) (c .before .before .before .before .before .letters-in .ensures)) (c .before .before .before .greater .ensures) (c .before .before .before .before .if1 .left) (c .before .before .if2 .left)
+ask-lent-requires c κs = askable _ _ _ _ _ (c .before .before .before .before .before .before .before .before .before .before .pre) (ap (λ k. k + 1) (c .before .before .before .before .before .letters-in .ensures)) (omega (arith, c .before .before .before .greater .ensures)) (c .before .before .before .before .if1 .left) (c .before .before .if2 .left)
 
 -- src/lib.rt:56:1
 same-length : tie.Need-same-length

@@ -1,11 +1,8 @@
 -- `asks::place_in_order` meets its contract: 3 and 4 stand at 3.
 -- Assumes nothing.
 use Rattle.asks.proofs.ScanLaws.{turn-four, turn-other}
-use borrow.Author.Needs.{needs}
 use Rattle.asks.proofs.place_in_order.Statement.{statement}
 use Rattle.asks.proofs.place_in_order.Tie as tie
-use Rattle.asks.proofs.place_in_order.Reads as reads
-use Rattle.asks.proofs.place_in_order.Lts as lts
 
 -- src/lib.rt:14:1
 returns : tie.Need-returns

@@ -1,13 +1,10 @@
 -- `asks::scan_both` meets its contract: the first refusal of both texts from those of each (`ScanLaws`).
 -- Assumes nothing.
+use native.Mathlib.Omega.{arith}
 use Rattle.asks.proofs.ScanLaws.{list-fine, query-fine, query-before, list-before}
 use borrow.Author.Needs.{needs}
 use Rattle.asks.proofs.scan_both.Statement.{statement}
 use Rattle.asks.proofs.scan_both.Tie as tie
-use Rattle.asks.proofs.scan_both.Reads as reads
-use Rattle.asks.proofs.scan_both.Lts as lts
-use Rattle.asks.proofs.place_in_order.Reads as place-in-order-reads
-use Rattle.lists.proofs.scan.Reads as scan-reads
 
 -- src/lib.rt:24:11
 scan-requires : tie.Need-scan-requires
@@ -55,11 +52,11 @@ returns-2 c = query-fine _ _ _ (c .before .before .before .before .before .befor
 
 -- src/lib.rt:21:1
 returns-3 : tie.Need-returns-3
-returns-3 c = query-before _ _ _ (c .before .before .before .before .before .before .before .before .before .before .scan .ensures) (c .before .before .before .before .before .before .scan3 .ensures) (c .before .before .before .before .before .before .before .before .a .given .1) (c .before .before .before .before .b .given .1) (c .before .before .place-in-order .ensures) (c .before .place-in-order2 .ensures) (c .if1 .taken)
+returns-3 c = query-before _ _ _ (c .before .before .before .before .before .before .before .before .before .before .scan .ensures) (c .before .before .before .before .before .before .scan3 .ensures) (c .before .before .before .before .before .before .before .before .a .given .1) (c .before .before .before .before .b .given .1) (c .before .before .place-in-order .ensures) (c .before .place-in-order2 .ensures) (omega (arith, c .if1 .taken))
 
 -- src/lib.rt:21:1
 returns-4 : tie.Need-returns-4
-returns-4 c = list-before _ _ _ (c .before .before .before .before .before .before .before .before .before .before .scan .ensures) (c .before .before .before .before .before .before .scan3 .ensures) (c .before .before .before .before .before .before .before .before .a .given .1) (c .before .before .before .before .b .given .1) (c .before .before .place-in-order .ensures) (c .before .place-in-order2 .ensures) (c .if1 .left)
+returns-4 c = list-before _ _ _ (c .before .before .before .before .before .before .before .before .before .before .scan .ensures) (c .before .before .before .before .before .before .scan3 .ensures) (c .before .before .before .before .before .before .before .before .a .given .1) (c .before .before .before .before .b .given .1) (c .before .before .place-in-order .ensures) (c .before .place-in-order2 .ensures) (omega (arith, c .if1 .left))
 
 pub scan-both-spec : {M : Type 1} → statement M
 scan-both-spec =
