@@ -1,5 +1,6 @@
 -- The contract of `fold` fixes its outcome.
---   fold-determined : two outcomes that conform on one input are equal, answer and cells
+--   table-determined : of one list one table is left
+--   fold-determined  : two outcomes that conform on one input are equal, answer and cells
 -- One subgroup has one table, the room behind its points is absent, and every complete folding has the same counts. Assumes nothing.
 use mathlib.Core.Path.{_≡_, refl, sym, _∙_, ap, subst, fun-ext}
 use mathlib.Core.Logic.{by-cases}
@@ -15,6 +16,7 @@ use Rattle.theory.specs.Letters.{wordsOf}
 use Rattle.theory.specs.Refusals.{Refusal as FirstCause, textRefusal}
 use Rattle.theory.specs.Tables.{absent, Cells, cell}
 use Rattle.theory.specs.Graphs.{startGraph}
+use Rattle.theory.specs.Subgroups.{TableOf}
 use Rattle.theory.proofs.FoldCounts.{folding-exists}
 use Rattle.theory.proofs.Main.{tables-equal-iff-same-subgroup}
 use Rattle.engine.specs.Work.{Holds}
@@ -52,53 +54,63 @@ room-cells {n} {R} {N} {table} {work} {table′} {work′} most lent c = fun-ext
         by-cases (decLt v N) (λ h. rw (lt-ltb v N h, lt-ltb v R (omega (arith, h, c .used))))
         (λ h. outside v y (omega arith) ∙ sym (rw (le-ltb v N (omega arith))))
 
-module _ {n : ℕ} {list table work : List ℕ} {f g : FoldFigures} {t₁ w₁ t₂ w₂ : List ℕ}
-    (clear : foldRefusal n list (length table) (length work) ≡ none)
-    (h : Done n list table work f t₁ w₁) (k : Done n list table work g t₂ w₂) where
-  same-table : (f .points ≡ g .points) × ((v y : ℕ) → cell n (f .points) t₁ v y ≡ cell n (g .points) t₂ v y)
-  same-table =
-      tables-equal-iff-same-subgroup (h .subgroup) (k .subgroup) .1 (record { onward = λ q m. m; back = λ q m. m })
+-- the tables of one list are equal, with every cell behind
+module _ {n N M : ℕ} (list : List ℕ) {table work t₁ w₁ t₂ w₂ : List ℕ}
+    (fine : textRefusal n true list ≡ none) (lent : rowsOf list * (2 * n) ≤ length table)
+    (T : TableOf n N t₁ (wordsOf list)) (c : Cleared n (rowsOf list) N table work t₁ w₁)
+    (S : TableOf n M t₂ (wordsOf list)) (d : Cleared n (rowsOf list) M table work t₂ w₂) where
+  same-table : (N ≡ M) × ((v y : ℕ) → cell n N t₁ v y ≡ cell n M t₂ v y)
+  same-table = tables-equal-iff-same-subgroup T S .1 (record { onward = λ q m. m; back = λ q m. m })
 
-  same-cells : t₁ ≡ t₂
-  same-cells = holds-determined room (holds-first n (rowsOf list) t₁) other
+  pub table-determined : t₁ ≡ t₂
+  table-determined = holds-determined room (holds-first n (rowsOf list) t₁) other
     where
-      fine : (textRefusal n true list ≡ none) × (rowsOf list * (2 * n) ≤ length table) × (8 * rowsOf list ≤ length work)
-      fine = fold-fine n list (length table) (length work) clear
-
       most : n ≤ 26
-      most = fine-alphabet n list (fine .0) .1
+      most = fine-alphabet n list fine .1
 
-      first : cell n (rowsOf list) t₁ ≡ cell n (f .points) t₁
-      first = room-cells most (fine .1) (h .cleared)
+      first : cell n (rowsOf list) t₁ ≡ cell n N t₁
+      first = room-cells most lent c
 
-      second : cell n (rowsOf list) t₂ ≡ cell n (g .points) t₂
-      second = room-cells most (fine .1) (k .cleared)
+      second : cell n (rowsOf list) t₂ ≡ cell n M t₂
+      second = room-cells most lent d
 
       room : Roomed n (rowsOf list) t₁
       room =
           record {
-            inverse = subst Inverse (sym first) (h .subgroup .canonical .inverse);
-            some = fine-alphabet n list (fine .0) .0;
+            inverse = subst Inverse (sym first) (T .canonical .inverse);
+            some = fine-alphabet n list fine .0;
             most = most;
-            fits = rows-few n list (fine .0);
-            lent = omega (arith, fine .1, h .cleared .same);
+            fits = rows-few n list fine;
+            lent = omega (arith, lent, c .same);
           }
 
       other : Holds n (rowsOf list) t₁ (cell n (rowsOf list) t₁) t₂
       other =
           record {
-            same = k .cleared .same ∙ sym (h .cleared .same);
-            cells = λ v y. ap (λ (c : Cells). c v y) second ∙ sym (ap (λ (c : Cells). c v y) first ∙ same-table .1 v y);
-            rest = k .cleared .rest ∙ sym (h .cleared .rest);
+            same = d .same ∙ sym (c .same);
+            cells = λ v y. ap (λ (f : Cells). f v y) second ∙ sym (ap (λ (f : Cells). f v y) first ∙ same-table .1 v y);
+            rest = d .rest ∙ sym (c .rest);
           }
+
+module _ {n : ℕ} {list table work : List ℕ} {f g : FoldFigures} {t₁ w₁ t₂ w₂ : List ℕ}
+    (clear : foldRefusal n list (length table) (length work) ≡ none)
+    (h : Done n list table work f t₁ w₁) (k : Done n list table work g t₂ w₂) where
+  fine : (textRefusal n true list ≡ none) × (rowsOf list * (2 * n) ≤ length table) × (8 * rowsOf list ≤ length work)
+  fine = fold-fine n list (length table) (length work) clear
+
+  same-cells : t₁ ≡ t₂
+  same-cells = table-determined list (fine .0) (fine .1) (h .subgroup) (h .cleared) (k .subgroup) (k .cleared)
+
+  same-points : f .points ≡ g .points
+  same-points = same-table list (fine .0) (fine .1) (h .subgroup) (h .cleared) (k .subgroup) (k .cleared) .0
 
   same-figures : f ≡ g
   same-figures =
-      λ i. record { points = same-table .0 i; counts = counts i; start = start i; merging = folds .0 i; closing = folds .1 i }
+      λ i. record { points = same-points i; counts = counts i; start = start i; merging = folds .0 i; closing = folds .1 i }
     where
       counts : f .counts ≡ g .counts
       counts =
-          h .counts ∙ ap (λ N. figuresAs n N t₁) (same-table .0) ∙ ap (figuresAs n (g .points)) same-cells ∙ sym (k .counts)
+          h .counts ∙ ap (λ N. figuresAs n N t₁) same-points ∙ ap (figuresAs n (g .points)) same-cells ∙ sym (k .counts)
 
       points : f .start .points ≡ g .start .points
       points = h .start-points ∙ sym (k .start-points)

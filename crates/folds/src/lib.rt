@@ -48,7 +48,7 @@ fn take_words(table: &mut [u32], work: &mut [u32], room: Room, list: &[u8]) -> u
 }
 
 // Builds the table of a list in a room of L + 1 rows, and answers its points. The work cells are 0 afterwards.
-fn build(n: usize, list: &[u8], table: &mut [u32], work: &mut [u32]) -> usize
+pub fn build(n: usize, list: &[u8], table: &mut [u32], work: &mut [u32]) -> usize
     requires { ⌜ Foldable n (now list) (now table) (now work) ⌝ }
     ensures built { λ r. ⌜ Built n (now (list .entry)) (now (table .entry)) (now (work .entry)) r (now (table .exit)) (now (work .exit)) ⌝ }
 {
