@@ -3,6 +3,8 @@
 --   indexOf i   == a finite index, else 0
 --   replyOf o   == a refusal's number and place, or number 0 and the figures; what does not apply is 0
 --   FoldReplied <-> the reply is that of an outcome that `fold` promises, with its cells
+--   answerReply a == a refusal's number and place, or number 0 and 1 for inside, 0 for outside
+--   AskReplied  <-> the reply is that of an answer that `ask` promises, with its cells
 -- Assumes nothing.
 use mathlib.Core.Path.{_≡_}
 use mathlib.Core.List.{List}
@@ -14,7 +16,11 @@ use Rattle.folds.specs.declared.FoldFigures.{FoldFigures}
 use Rattle.folds.specs.declared.Folded.{Folded}
 use Rattle.folds.specs.declared.Folded.the-variants.{Refused, Made}
 use Rattle.folds.specs.Folds.{FoldOutcome}
+use Rattle.members.specs.declared.Answer.{Answer}
+use Rattle.members.specs.declared.Answer.the-variants.{Refused as AnswerRefused, Inside, Outside}
+use Rattle.asks.specs.Asks.{AskOutcome}
 use Rattle.subgroups.specs.declared.FoldReply.{FoldReply}
+use Rattle.subgroups.specs.declared.AskReply.{AskReply}
 
 abbrev pub finiteOf : Index → ℕ
 finiteOf (Finite k) = 1
@@ -62,3 +68,12 @@ replyOf (Made f) = madeReply f
 
 abbrev pub FoldReplied : ℕ → List ℕ → List ℕ → List ℕ → FoldReply → List ℕ → List ℕ → Type 0
 FoldReplied n list table work r table′ work′ = (o : Folded) × FoldOutcome n list table work o table′ work′ × (r ≡ replyOf o)
+
+abbrev pub answerReply : Answer → AskReply
+answerReply (AnswerRefused r) = record { number = r .number; place = r .place; inside = 0 }
+answerReply Inside = record { number = 0; place = 0; inside = 1 }
+answerReply Outside = record { number = 0; place = 0; inside = 0 }
+
+abbrev pub AskReplied : ℕ → List ℕ → List ℕ → List ℕ → List ℕ → AskReply → List ℕ → List ℕ → Type 0
+AskReplied n list query table work r table′ work′ =
+    (a : Answer) × AskOutcome n list query table work a table′ work′ × (r ≡ answerReply a)

@@ -1,8 +1,9 @@
 // The library that C and Rust programs link: each function answers a struct of plain numbers, laid out as in C.
 ghost use mathlib.Core.Path.{_≡_};
-ghost use Rattle.subgroups.specs.Replies.{finiteOf, indexOf, madeReply, replyOf, FoldReplied};
+ghost use Rattle.subgroups.specs.Replies.{finiteOf, indexOf, madeReply, replyOf, FoldReplied, answerReply, AskReplied};
 use folds::FoldFigures;
 use folds::Folded;
+use members::Answer;
 use tables::Index;
 
 // What folding answers: a refusal (number 0 if there is none), or the figures of the table. What does not apply is 0.
@@ -95,4 +96,49 @@ pub extern "C" fn subgroups_fold(
     ensures outcome { λ r. ⌜ FoldReplied n (now (list .entry)) (now (table .entry)) (now (work .entry)) r (now (table .exit)) (now (work .exit)) ⌝ }
 {
     reply_of(folds::fold(n, list, table, work))
+}
+
+// What asking answers: a refusal (number 0 if there is none), or 1 for inside and 0 for outside.
+#[repr(C)]
+pub struct AskReply {
+    pub number: u64,
+    pub place: u64,
+    pub inside: u64,
+}
+
+// An answer as a reply.
+fn answer_reply(a: Answer) -> AskReply
+    ensures reply { λ r. ⌜ r ≡ answerReply a ⌝ }
+{
+    match a {
+        Answer::Refused(r) => AskReply {
+            number: r.number,
+            place: r.place,
+            inside: 0,
+        },
+        Answer::Inside => AskReply {
+            number: 0,
+            place: 0,
+            inside: 1,
+        },
+        Answer::Outside => AskReply {
+            number: 0,
+            place: 0,
+            inside: 0,
+        },
+    }
+}
+
+// Says whether a query is a member of the subgroup of a list of words over n generators, or refuses.
+#[no_mangle]
+pub extern "C" fn subgroups_ask(
+    n: u64,
+    list: &[u8],
+    query: &[u8],
+    table: &mut [u32],
+    work: &mut [u32],
+) -> AskReply
+    ensures outcome { λ r. ⌜ AskReplied n (now (list .entry)) (now (query .entry)) (now (table .entry)) (now (work .entry)) r (now (table .exit)) (now (work .exit)) ⌝ }
+{
+    answer_reply(asks::ask(n, list, query, table, work))
 }
