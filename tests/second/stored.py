@@ -20,8 +20,9 @@ from second.lists import KINDS, long_list  # noqa: E402
 from second.tables import counts  # noqa: E402
 from second.words import Refused, letter_count, list_text  # noqa: E402
 
-INPUT = os.path.join(TESTS, "stored", "fold.stdin")
-OUTPUT = os.path.join(TESTS, "stored", "fold.stdout")
+CRATE = os.path.join(os.path.dirname(TESTS), "crates", "fold_cases")
+INPUT = os.path.join(CRATE, "stdin")
+OUTPUT = os.path.join(CRATE, "stdout")
 
 SEED = 20240917
 CELL_BEFORE = 777

@@ -1,0 +1,3 @@
+-- Laws of stored lists, and what the contract fixes.
+pub mod CaseLaws
+pub mod Determined
