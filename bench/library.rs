@@ -7,7 +7,6 @@ extern "C" {
         n: u64, list: *const u8, list_len: usize,
         table: *mut u32, table_len: usize, work: *mut u32, work_len: usize,
     ) -> FoldReply;
-    #[cfg(asks)]
     fn subgroups_ask(
         n: u64, list: *const u8, list_len: usize, query: *const u8, query_len: usize,
         table: *mut u32, table_len: usize, work: *mut u32, work_len: usize,
@@ -26,7 +25,6 @@ pub fn fold(n: u64, list: &[u8], table: &mut [u32], work: &mut [u32]) -> FoldRep
 }
 
 /// Folds a list and answers one query.
-#[cfg(asks)]
 #[allow(dead_code)] // the benchmark folds only
 pub fn ask(n: u64, list: &[u8], query: &[u8], table: &mut [u32], work: &mut [u32]) -> AskReply {
     // SAFETY: as above.
@@ -36,11 +34,4 @@ pub fn ask(n: u64, list: &[u8], query: &[u8], table: &mut [u32], work: &mut [u32
             table.as_mut_ptr(), table.len(), work.as_mut_ptr(), work.len(),
         )
     }
-}
-
-/// The library has no such function yet (scripts/asks).
-#[cfg(not(asks))]
-#[allow(dead_code)]
-pub fn ask(_: u64, _: &[u8], _: &[u8], _: &mut [u32], _: &mut [u32]) -> AskReply {
-    unimplemented!()
 }

@@ -1,4 +1,4 @@
-/* The library called from C through its header: one list folded and, where ASKS is defined, asked; and refusals. */
+/* The library called from C through its header: one list folded and asked, and refusals. */
 
 #include <stdio.h>
 #include <string.h>
@@ -42,14 +42,12 @@ static FoldReply fold(uint64_t n, const char *text, size_t table_len, size_t wor
     return subgroups_fold(n, (const uint8_t *)text, strlen(text), table, table_len, work, work_len);
 }
 
-#ifdef ASKS
 static AskReply ask(const char *query)
 {
     lend();
     return subgroups_ask(2, (const uint8_t *)list, strlen(list), (const uint8_t *)query, strlen(query),
                          table, TABLE, work, WORK);
 }
-#endif
 
 static void refused(const char *what, FoldReply got, uint64_t number, uint64_t place)
 {
@@ -70,12 +68,10 @@ int main(void)
     check("absent after the rows", all(table, 8, TABLE, SUBGROUPS_ABSENT));
     check("work cleared", all(work, 0, WORK, 0));
     check("later cells kept", all(table, TABLE, TABLE + AFTER, 777) && all(work, WORK, WORK + AFTER, 777));
-#ifdef ASKS
     check("aba is inside", ask("aba").inside == 1);
     check("a is outside", ask("a").inside == 0);
     check("aA is inside", ask("aA").inside == 1);
     check("a query of another letter", ask("abc").number == SUBGROUPS_LETTER);
-#endif
     refused("n", fold(UINT64_C(4294967298), list, TABLE, WORK), SUBGROUPS_ALPHABET, 0);
     refused("byte", fold(2, "ab\na b\n", TABLE, WORK), SUBGROUPS_BYTE, 4);
     refused("letter", fold(1, list, TABLE, WORK), SUBGROUPS_LETTER, 2);

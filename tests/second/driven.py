@@ -1,6 +1,6 @@
-"""Fresh random lists through a driver and through this program, and the stored ones: 'python3 driven.py DRIVER [asks]'.
+"""Fresh random lists through a driver and through this program, and the stored ones: 'python3 driven.py DRIVER'.
 
-DRIVER runs cases on an engine (see tests/driver/main.rs); with 'asks' it also answers single queries.
+DRIVER folds lists and answers single queries on an engine (see tests/driver/main.rs).
 Every cell of both lent buffers is compared, and the driver watches guard cells around them. The seed is random
 and printed; the environment variable SEED sets it. The last line is 'N passed, M failed'.
 """
@@ -222,18 +222,14 @@ def run_stored(driver):
     return compare("stored", range(1, len(want) + 1), got, want)
 
 
-def main(driver, *parts):
-    """Runs folds and stored lists, and asks where they are among the parts."""
+def main(driver):
+    """Runs folds, single queries and the stored lists."""
     seed = int(os.environ.get("SEED") or random.SystemRandom().randrange(2 ** 32))
     print("seed %d" % seed)
     chance = random.Random(seed)
     inside = [*members(chance)]
-    tallies = [run(driver, "folds", [*good_folds(chance), *bad_folds(chance)], fold_line), all_inside(inside)]
-    if "asks" in parts:
-        tallies.append(run(driver, "asks", inside + [*asks(chance)], ask_line))
-    else:
-        print("asks: not run, since the library does not export subgroups_ask")
-    tallies.append(run_stored(driver))
+    tallies = [run(driver, "folds", [*good_folds(chance), *bad_folds(chance)], fold_line), all_inside(inside),
+               run(driver, "asks", inside + [*asks(chance)], ask_line), run_stored(driver)]
     passed, failed = (sum(part) for part in zip(*tallies))
     print("%d passed, %d failed" % (passed, failed))
     return 1 if failed else 0
