@@ -38,6 +38,8 @@ use Rattle.rooms.specs.Rooms.{stateIn, withMade, Lent, Plain, Fit, Left}
 use Rattle.rooms.proofs.RoomLaws.{all-words, plain-stage, left-as, left-then, fit-grown, fit-usable}
 use Rattle.takes.specs.declared.Stop.{Stop}
 use Rattle.takes.specs.declared.Grown.{Grown}
+use Rattle.takes.specs.declared.Circled.{Circled}
+use Rattle.takes.specs.declared.Taken.{Taken}
 use Rattle.takes.specs.Readings.{Readable, FrontOf, BackOf}
 use Rattle.takes.specs.Chains.{wordIn, part, ChainFits, chainedBy, Chained}
 use Rattle.takes.specs.Takes.{reducedIn, Takeable, circled, CircleOf, TakenIn}
@@ -258,10 +260,12 @@ module _ {r : Room} {text table work : List ℕ} (h : Takeable r text table work
               }
 
           pub circle-is : {g : Grown} {table′ work′ : List ℕ}
-              → Chained r table work₁ 0 (f .point) (b .point) (f .count) (b .count) g table′ work′ → CircleOf r text table work g table′ work′
+              → Chained r table work₁ 0 (f .point) (b .point) (f .count) (b .count) g table′ work′
+              → CircleOf r text table work (record { made = g .made; count = g .count; left = size }) table′ work′
           circle-is {g} {table′} {work′} k =
               record {
                 made = k .made ∙ ap (λ s. s .made) made-is;
+                letters = is;
                 left = subst (λ l. Left (withMade r (g .made)) table l (circled r text table work) table′ work′ (g .count)) e₁ (left-as made-is (k .left));
               }
 
@@ -272,7 +276,7 @@ module _ {r : Room} {text table work : List ℕ} (h : Takeable r text table work
   unfolding takenIn
   chained-in = chained-chains all-words (usual-closed (r .n)) (stateIn r table work 0) _ _ _ word-chainable
 
-  module _ {g : Grown} {table′ work′ : List ℕ} (k : CircleOf r text table work g table′ work′) where
+  module _ {g : Circled} {table′ work′ : List ℕ} (k : CircleOf r text table work g table′ work′) where
     pub drain-asks : Fit (withMade r (g .made)) [] table′ work′ (g .count)
     drain-asks =
         fit-grown (g .made) (omega (arith, k .made, chained-in .made, middle-points c word, h .room))
@@ -280,20 +284,20 @@ module _ {r : Room} {text table work : List ℕ} (h : Takeable r text table work
 
     pub taken-is : {table″ work″ : List ℕ}
         → Left (withMade r (g .made)) table′ work′ (drained (usual (r .n)) (stateIn (withMade r (g .made)) table′ work′ (g .count))) table″ work″ 0
-        → TakenIn r text table work (g .made) table″ work″
-    taken-is m = record { made-is = k .made; left = left-then (k .left) (drained (usual (r .n))) m }
+        → TakenIn r text table work (record { made = g .made; left = g .left }) table″ work″
+    taken-is m = record { made = k .made; letters = k .letters; left = left-then (k .left) (drained (usual (r .n))) m }
 
   -- ── For callers ──
 
-  module _ {made : ℕ} {table′ work′ : List ℕ} (k : TakenIn r text table work made table′ work′) where
+  module _ {g : Taken} {table′ work′ : List ℕ} (k : TakenIn r text table work g table′ work′) where
     -- no more new points than the word's circle has
-    pub taken-points : made ≤ r .made + newPoints word
-    taken-points = omega (arith, k .made-is, chained-in .made, middle-points c word)
+    pub taken-points : g .made ≤ r .made + newPoints word
+    taken-points = omega (arith, k .made, chained-in .made, middle-points c word)
 
     -- nothing is pending, and the next word may be taken in
-    pub taken-fit : Fit (withMade r made) [] table′ work′ 0
+    pub taken-fit : Fit (withMade r (g .made)) [] table′ work′ 0
     taken-fit =
-        fit-grown made (omega (arith, taken-points, h .room)) (fit-same refl .lent) (k .left)
+        fit-grown (g .made) (omega (arith, taken-points, h .room)) (fit-same refl .lent) (k .left)
         (drained-settles all-words (plain-stage (chained-in .stage)) .stage)
         (drained-roomy all-words (plain-stage (chained-in .stage)) (omega (arith, chained-in .made, chained-in .weighs, h .fit .roomy)))
 

@@ -14,7 +14,8 @@ use Rattle.words.specs.Reduction.{reducedCells}
 use Rattle.engine.specs.Engine.{State, drained, takenIn}
 use Rattle.rooms.specs.declared.Room.{Room}
 use Rattle.rooms.specs.Rooms.{stateIn, withMade, Fit, Left}
-use Rattle.takes.specs.declared.Grown.{Grown}
+use Rattle.takes.specs.declared.Circled.{Circled}
+use Rattle.takes.specs.declared.Taken.{Taken}
 
 unfoldable pub reducedIn : Room → List ℕ → List ℕ → List ℕ
 reducedIn r part work = take (2 * r .rows) work ++ reducedCells (firstWord part) (drop (2 * r .rows) work)
@@ -28,11 +29,13 @@ pub record Takeable (r : Room) (part table work : List ℕ) : Type 0 where
 abbrev pub circled : Room → List ℕ → List ℕ → List ℕ → State
 circled r part table work = takenIn (stateIn r table work 0) (reduced (firstWord part))
 
-pub record CircleOf (r : Room) (part table work : List ℕ) (g : Grown) (table′ work′ : List ℕ) : Type 0 where
+pub record CircleOf (r : Room) (part table work : List ℕ) (g : Circled) (table′ work′ : List ℕ) : Type 0 where
   pub made : g .made ≡ circled r part table work .made
+  pub letters : g .left ≡ length (reduced (firstWord part))
   pub left : Left (withMade r (g .made)) table (reducedIn r part work) (circled r part table work) table′ work′ (g .count)
 
-pub record TakenIn (r : Room) (part table work : List ℕ) (made : ℕ) (table′ work′ : List ℕ) : Type 0 where
-  pub made-is : made ≡ circled r part table work .made
+pub record TakenIn (r : Room) (part table work : List ℕ) (g : Taken) (table′ work′ : List ℕ) : Type 0 where
+  pub made : g .made ≡ circled r part table work .made
+  pub letters : g .left ≡ length (reduced (firstWord part))
   pub left
-      : Left (withMade r made) table (reducedIn r part work) (drained (usual (r .n)) (circled r part table work)) table′ work′ 0
+      : Left (withMade r (g .made)) table (reducedIn r part work) (drained (usual (r .n)) (circled r part table work)) table′ work′ 0

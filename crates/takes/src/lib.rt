@@ -21,6 +21,19 @@ pub struct Grown {
     pub count: usize,
 }
 
+// What building a circle says: what has grown, and the letters of the reduced word.
+pub struct Circled {
+    pub made: usize,
+    pub count: usize,
+    pub left: usize,
+}
+
+// What taking a word in says: the points made, and the letters of the reduced word.
+pub struct Taken {
+    pub made: usize,
+    pub left: usize,
+}
+
 // The absent mark.
 const ABSENT: u32 = 4294967295;
 
@@ -138,7 +151,7 @@ fn chain(
 }
 
 // Builds the circle of the word at the start of `part`, as far as it is not there.
-fn circle(table: &mut [u32], work: &mut [u32], room: Room, part: &[u8]) -> Grown
+fn circle(table: &mut [u32], work: &mut [u32], room: Room, part: &[u8]) -> Circled
     requires { ⌜ Takeable room (now part) (now table) (now work) ⌝ }
     ensures circle { λ r. ⌜ CircleOf room (now (part .entry)) (now (table .entry)) (now (work .entry)) r (now (table .exit)) (now (work .exit)) ⌝ }
 {
@@ -147,7 +160,7 @@ fn circle(table: &mut [u32], work: &mut [u32], room: Room, part: &[u8]) -> Grown
     let size = word.left;
     let front = read_front(table, &work[at..], room, size);
     let back = read_back(table, &work[at..], room, front.count, size);
-    chain(
+    let grown = chain(
         table,
         work,
         room,
@@ -155,16 +168,21 @@ fn circle(table: &mut [u32], work: &mut [u32], room: Room, part: &[u8]) -> Grown
         back.point,
         front.count,
         back.count,
-    )
+    );
+    Circled {
+        made: grown.made,
+        count: grown.count,
+        left: size,
+    }
 }
 
-// Takes the word at the start of `part` in, with nothing pending before and after. Answers the points made.
-pub fn take_in(table: &mut [u32], work: &mut [u32], room: Room, part: &[u8]) -> usize
+// Takes the word at the start of `part` in, with nothing pending before and after.
+pub fn take_in(table: &mut [u32], work: &mut [u32], room: Room, part: &[u8]) -> Taken
     requires { ⌜ Takeable room (now part) (now table) (now work) ⌝ }
     ensures taken { λ r. ⌜ TakenIn room (now (part .entry)) (now (table .entry)) (now (work .entry)) r (now (table .exit)) (now (work .exit)) ⌝ }
 {
-    let grown = circle(table, work, room, part);
-    let made = grown.made;
+    let circled = circle(table, work, room, part);
+    let made = circled.made;
     drains::drain(
         table,
         work,
@@ -173,7 +191,10 @@ pub fn take_in(table: &mut [u32], work: &mut [u32], room: Room, part: &[u8]) -> 
             rows: room.rows,
             made,
         },
-        grown.count,
+        circled.count,
     );
-    made
+    Taken {
+        made,
+        left: circled.left,
+    }
 }

@@ -9,23 +9,23 @@ use Rattle.takes.proofs.take_in.Lts as lts
 use Rattle.drains.proofs.drain.Reads as drain-reads
 use Rattle.takes.proofs.circle.Reads as circle-reads
 
--- src/lib.rt:166:9
+-- src/lib.rt:184:9
 circle-requires : tie.Need-circle-requires
 circle-requires c κs = search needs
 
--- src/lib.rt:168:5
+-- src/lib.rt:186:5
 drain-requires : tie.Need-drain-requires
 drain-requires c κs = drain-asks (c .before .before .before .before .before .before .before .before .before .before .before .before .pre) (c .before .before .before .before .before .before .circle .ensures)
 
--- src/lib.rt:162:1
+-- src/lib.rt:180:1
 same-length : tie.Need-same-length
 same-length c = search needs
 
--- src/lib.rt:162:1
+-- src/lib.rt:180:1
 same-length-2 : tie.Need-same-length-2
 same-length-2 c = search needs
 
--- src/lib.rt:162:1
+-- src/lib.rt:180:1
 returns : tie.Need-returns
 returns c = taken-is (c .before .before .before .before .before .before .before .before .before .before .before .before .before .before .before .before .before .pre) (c .before .before .before .before .before .before .before .before .before .before .before .circle .ensures) (c .before .before .before .before .drain .ensures)
 
