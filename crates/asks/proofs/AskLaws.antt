@@ -35,6 +35,7 @@ use Rattle.members.specs.declared.Answer.the-variants.{Refused, Inside, Outside
 use Rattle.rooms.proofs.UniteLaws.{drop-behind}
 use Rattle.folds.specs.Causes.{rowsOf, workOf}
 use Rattle.folds.specs.Folds.{Cleared}
+use Rattle.folds.specs.declared.BuildSize.{BuildSize}
 use Rattle.folds.specs.Rows.{Foldable, Built}
 use Rattle.folds.proofs.BuildLaws.{rows-few}
 use Rattle.asks.specs.Causes.{askedWork, textsRefusal, askRefusal}
@@ -136,7 +137,10 @@ module _ {n : ℕ} {list query table work : List ℕ} (h : Askable n list query 
   build-asks =
       record { fine = texts-fine n list query (h .fine) .0; rows = h .rows; room = omega (arith, h .room) }
 
-  module _ {N : ℕ} {t w₁ : List ℕ} (b : Built n list table work N t w₁) where
+  module _ {g : BuildSize} {t w₁ : List ℕ} (b : Built n list table work g t w₁) where
+    abbrev N : ℕ
+    N = g .points
+
     query-good : textRefusal n false query ≡ none
     query-good = texts-fine n list query (h .fine) .1
 

@@ -48,7 +48,8 @@ fn ask_lent(n: u64, list: &[u8], query: &[u8], table: &mut [u32], work: &mut [u3
     requires { ⌜ Askable n (now list) (now query) (now table) (now work) ⌝ }
     ensures outcome { λ r. ⌜ AskOutcome n (now (list .entry)) (now (query .entry)) (now (table .entry)) (now (work .entry)) r (now (table .exit)) (now (work .exit)) ⌝ }
 {
-    let points = folds::build(n as usize, list, table, work) as u64;
+    let built = folds::build(n as usize, list, table, work);
+    let points = built.points as u64;
     members::member(Subgroup { n, points }, table, query, work)
 }
 

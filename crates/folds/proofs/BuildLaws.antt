@@ -38,6 +38,7 @@ use Rattle.engine.proofs.TableExists.{good-words, all-words, list-points, list-
 use Rattle.rooms.specs.declared.Room.{Room}
 use Rattle.rooms.specs.Rooms.{stateIn, withMade, Lent}
 use Rattle.rooms.proofs.UniteLaws.{drop-behind}
+use Rattle.lists.specs.declared.StartSize.{StartSize}
 use Rattle.numbering.specs.Numbered.{Roomed, NumberedIn}
 use Rattle.numbering.proofs.Numbers.{number-canonical, number-bounded, number-base, number-fits, number-exact}
 use Rattle.folds.specs.Causes.{rowsOf, workOf}
@@ -168,7 +169,7 @@ module _ {n : ℕ} {list table work : List ℕ} (h : Foldable n list table work)
         fresh : stateIn room t₁ w₁ 0 ≡ start
         fresh = fresh-as cells-are roots-are (no-pending (drop rows w₁))
 
-    module _ {made : ℕ} {t₂ w₂ : List ℕ} (k : WordsIn room list t₁ w₁ made t₂ w₂) where
+    module _ {st : StartSize} {t₂ w₂ : List ℕ} (k : WordsIn room list t₁ w₁ st t₂ w₂) where
       abbrev ws : List (List ℕ)
       ws = wordsOf list
 
@@ -235,7 +236,7 @@ module _ {n : ℕ} {list table work : List ℕ} (h : Foldable n list table work)
                 drop-behind (3 * rows) (8 * rows) w₂ w₁ (omega arith) (k .work-rest)
                 ∙ drop-behind 1 (8 * rows) w₁ work (omega (arith, e)) first
 
-        pub built : Built n list table work N t₃ w₃
+        pub built : Built n list table work (record { points = N; start = st }) t₃ w₃
         built =
             record {
               subgroup =
@@ -246,4 +247,5 @@ module _ {n : ℕ} {list table work : List ℕ} (h : Foldable n list table work)
                         (number-exact number-ready some m ws (subst (λ c. AcceptsExactly c ws) (sym cells-folded) (exact .3)));
                   };
               cleared = subst (λ j. Cleared n j N table work t₃ w₃) e cleared;
+              sizes = k .sizes;
             }

@@ -1,6 +1,6 @@
 -- What the parts of `fold` say, on plain values.
 --   not-refused  : what is lent is enough
---   build-asks, made-outcome, never-refused : the outcome of `fold_lent`
+--   made-outcome, never-refused : the outcome of `fold_lent`
 --   six, seven   : the refusals of `fold_text`; scan-refused : those of the list
 -- Assumes nothing.
 use mathlib.Core.Path.{_≡_, refl, sym, _∙_, ap, subst}
@@ -34,12 +34,12 @@ use Rattle.lists.specs.declared.StartSize.{StartSize}
 use Rattle.lists.specs.declared.Scanned.{Scanned}
 use Rattle.lists.specs.declared.Scanned.the-variants.{Fine as ScannedFine, Refused as ScannedRefused}
 use Rattle.lists.specs.Scans.{scannedAs}
-use Rattle.lists.specs.Counts.{StartSizeOf}
 use Rattle.tables.specs.declared.Checked.{Checked}
 use Rattle.tables.specs.declared.Checked.the-variants.{Refused as CheckRefused, Counted}
 use Rattle.tables.specs.declared.Figures.{Figures}
 use Rattle.tables.specs.Checks.{figuresAs, checkedFor, checkedAs}
 use Rattle.rooms.proofs.UniteLaws.{drop-behind}
+use Rattle.folds.specs.declared.BuildSize.{BuildSize}
 use Rattle.folds.specs.declared.FoldFigures.{FoldFigures}
 use Rattle.folds.specs.declared.Folded.{Folded}
 use Rattle.folds.specs.declared.Folded.the-variants.{Refused, Made}
@@ -106,37 +106,21 @@ not-refused {n} {list} {table} {work} h =
 
 -- ── The fold ──
 
-module _ {n : ℕ} {list table work : List ℕ} (h : Foldable n list table work) {st : StartSize} {w₁ : List ℕ} (p : StartSizeOf list work st w₁) where
-  start-long : length w₁ ≡ length work
-  start-long = ap length (p .cells) ∙ length-filled (lettersIn list) 0 work (omega (arith, h .room))
-
-  pub build-asks : Foldable n list table w₁
-  build-asks = record { fine = h .fine; rows = h .rows; room = omega (arith, start-long, h .room) }
-
-  -- the start graph is small
-  pub start-small : st .edges ≤ 1048576
-  start-small =
-      omega (arith, p .edges, start-graph-sizes (wordsOf list) .0, reducedLength-written (wordsOf list), written-letters list, list-short n list (h .fine))
-
-  module _ {N : ℕ} {t w : List ℕ} (b : Built n list table w₁ N t w) where
+module _ {n : ℕ} {list table work : List ℕ} (h : Foldable n list table work) where
+  module _ {g : BuildSize} {t w : List ℕ} (b : Built n list table work g t w) where
     ws : List (List ℕ)
     ws = wordsOf list
 
-    cleared : Cleared n (rowsOf list) N table work t w
-    unfolding filled
-    cleared =
-        record {
-          used = b .cleared .used;
-          same = b .cleared .same;
-          unused = b .cleared .unused;
-          rest = b .cleared .rest;
-          zeros = b .cleared .zeros ∙ ap (λ l. replicate (workOf list) 0 ++ l) behind;
-        }
-      where
-        behind : drop (workOf list) w₁ ≡ drop (workOf list) work
-        behind =
-            drop-behind (lettersIn list) (workOf list) w₁ work (omega arith)
-            (ap (drop (lettersIn list)) (p .cells) ∙ filled-drop (lettersIn list) 0 work)
+    abbrev N : ℕ
+    N = g .points
+
+    abbrev st : StartSize
+    st = g .start
+
+    -- the start graph is small
+    pub start-small : st .edges ≤ 1048576
+    start-small =
+        omega (arith, b .sizes .edges, start-graph-sizes (wordsOf list) .0, reducedLength-written (wordsOf list), written-letters list, list-short n list (h .fine))
 
     alphabet : isAlphabet n ≡ true
     alphabet = text-alphabet n true list (h .fine)
@@ -174,7 +158,7 @@ module _ {n : ℕ} {list table work : List ℕ} (h : Foldable n list table work)
       folds-are g i j k =
           let q = fold-counts (b .subgroup) k in
           let s = start-graph-sizes ws in
-          (omega (arith, q .0, p .points), omega (arith, q .1, rank-is, s .0, s .1, p .points, p .edges))
+          (omega (arith, q .0, b .sizes .points), omega (arith, q .1, rank-is, s .0, s .1, b .sizes .points, b .sizes .edges))
 
       -- and one there is
       some-fold : (i : ℕ) × (j : ℕ) × (i + N ≡ st .points) × (j + cs .rank + st .points ≡ st .edges + 1)
@@ -205,9 +189,9 @@ module _ {n : ℕ} {list table work : List ℕ} (h : Foldable n list table work)
           done =
               record {
                 subgroup = b .subgroup;
-                cleared = cleared;
+                cleared = b .cleared;
                 counts = figures;
-                start-points = p .points;
-                start-edges = p .edges;
+                start-points = b .sizes .points;
+                start-edges = b .sizes .edges;
                 folds = λ g i j k. let q = folds-are g i j k in (omega (arith, q .0), omega (arith, q .1));
               }

@@ -9,22 +9,24 @@ use native.Mathlib.Omega.{arith}
 use lib.ListN.{length, take, drop, drop-of-length-le}
 use Rattle.theory.specs.Words.{reduced}
 use Rattle.theory.specs.Letters.{firstWord, wordsOf, lettersIn, usual}
-use Rattle.theory.specs.Graphs.{startPoints, newPoints}
+use Rattle.theory.specs.Graphs.{startPoints, newPoints, startGraph, reducedLength}
 use Rattle.theory.proofs.TextLaws.{word-letters, letters-drop}
-use Rattle.theory.proofs.ReadLaws.{Subgroup}
+use Rattle.theory.proofs.TableLaws.{length-upTo}
+use Rattle.theory.proofs.StartLaws.{start-edges, reducedLength-written, written-letters}
 use Rattle.engine.specs.Engine.{State, start, takenIn, drained, folded}
 use Rattle.engine.specs.Stages.{Stage, Settled, Roomy}
 use Rattle.engine.proofs.TakeLaws.{start-settled}
-use Rattle.engine.proofs.TableExists.{AllWords, good-words, list-points}
+use Rattle.engine.proofs.TableExists.{AllWords, good-words, list-points, list-short}
 use Rattle.rooms.specs.declared.Room.{Room}
 use Rattle.rooms.specs.Rooms.{stateIn, withMade, Lent, Plain, Fit}
 use Rattle.rooms.proofs.RoomLaws.{all-words, plain-stage}
 use Rattle.lists.specs.Counts.{nextStart}
 use Rattle.lists.proofs.CountTurn.{rest-of}
 use Rattle.lists.proofs.StartTurn.{words-next, next-in}
+use Rattle.takes.specs.declared.Taken.{Taken}
 use Rattle.takes.specs.Takes.{Takeable, TakenIn}
 use Rattle.takes.proofs.TakeTurn.{taken-points, taken-fit, taken-rest, taken-long}
-use Rattle.folds.specs.Rows.{Prepared, WordsIn}
+use Rattle.folds.specs.Rows.{Prepared, allIn, WordsIn}
 
 some-point : (ws : List (List ℕ)) → 1 ≤ startPoints ws
 unfolding startPoints
@@ -37,20 +39,22 @@ folded-more : (ys : List ℕ) (s : State) (w : List ℕ) (ws : List (List ℕ))
 unfolding folded
 folded-more ys s w ws = refl
 
-pub record Head (r : Room) (list table₀ work₀ : List ℕ) (made at : ℕ) (table work : List ℕ) : Type 0 where
+pub record Head (r : Room) (list table₀ work₀ : List ℕ) (made points edges at : ℕ) (table work : List ℕ) : Type 0 where
   pub prepared : Prepared r list table₀ work₀
   pub inside : at ≤ length list
   pub fit : Fit (withMade r made) [] table work 0
   pub words : AllWords (usual (r .n)) (wordsOf (drop at list))
   pub room : made + startPoints (wordsOf (drop at list)) ≤ r .rows + 1
   pub ends : folded (usual (r .n)) (stateIn (withMade r made) table work 0) (wordsOf (drop at list)) ≡ folded (usual (r .n)) start (wordsOf list)
+  pub pointed : points + startPoints (wordsOf (drop at list)) ≡ startPoints (wordsOf list) + 1
+  pub edged : edges + reducedLength (wordsOf (drop at list)) ≡ reducedLength (wordsOf list)
   pub table-same : length table ≡ length table₀
   pub table-rest : drop (r .rows * (2 * r .n)) table ≡ drop (r .rows * (2 * r .n)) table₀
   pub work-same : length work ≡ length work₀
   pub work-rest : drop (3 * r .rows) work ≡ drop (3 * r .rows) work₀
 
 -- the base alone
-pub head-first : {r : Room} {list table work : List ℕ} → Prepared r list table work → Head r list table work (r .made) 0 table work
+pub head-first : {r : Room} {list table work : List ℕ} → Prepared r list table work → Head r list table work (r .made) 1 0 0 table work
 unfolding start
 head-first {r} {list} {table} {work} p =
     record {
@@ -65,6 +69,8 @@ head-first {r} {list} {table} {work} p =
       words = good-words (r .n) list (p .fine);
       room = omega (arith, list-points list, p .rows, one);
       ends = ap (λ s. folded (usual (r .n)) s (wordsOf list)) (p .fresh);
+      pointed = omega arith;
+      edged = omega arith;
       table-same = refl;
       table-rest = refl;
       work-same = refl;
@@ -77,7 +83,7 @@ head-first {r} {list} {table} {work} p =
     one : r .made ≡ start .made
     one = ap (λ s. s .made) (p .fresh)
 
-module _ {r : Room} {list table₀ work₀ : List ℕ} {made at : ℕ} {table work : List ℕ} (h : Head r list table₀ work₀ made at table work) where
+module _ {r : Room} {list table₀ work₀ : List ℕ} {made points edges at : ℕ} {table work : List ℕ} (h : Head r list table₀ work₀ made points edges at table work) where
   module _ (l : at < length list) where
     abbrev d : List ℕ
     d = drop at list
@@ -88,9 +94,13 @@ module _ {r : Room} {list table₀ work₀ : List ℕ} {made at : ℕ} {table wo
     walk : wordsOf d ≡ firstWord d ∷ wordsOf (drop next list)
     walk = words-next list at next l refl
 
-    points : startPoints (wordsOf d) ≡ newPoints (reduced (firstWord d)) + startPoints (wordsOf (drop next list))
+    more : startPoints (wordsOf d) ≡ newPoints (reduced (firstWord d)) + startPoints (wordsOf (drop next list))
     unfolding startPoints
-    points = ap startPoints walk
+    more = ap startPoints walk
+
+    longer : reducedLength (wordsOf d) ≡ length (reduced (firstWord d)) + reducedLength (wordsOf (drop next list))
+    unfolding reducedLength
+    longer = ap reducedLength walk
 
     takeable : Takeable (withMade r made) d table work
     takeable =
@@ -98,35 +108,38 @@ module _ {r : Room} {list table₀ work₀ : List ℕ} {made at : ℕ} {table wo
           fit = h .fit;
           letters = subst (AllWords (usual (r .n))) walk (h .words) .0;
           place = omega (arith, word-letters d, letters-drop at list, h .prepared .rows);
-          room = omega (arith, h .room, points, some-point (wordsOf (drop next list)));
+          room = omega (arith, h .room, more, some-point (wordsOf (drop next list)));
         }
 
     -- the part that is handed over is the rest of the list
     pub head-asks : Takeable (withMade r made) (take (length list - at) (drop at list)) table work
     head-asks = subst (λ t. Takeable (withMade r made) t table work) (sym (rest-of list at)) takeable
 
-    module _ {k : ℕ} {table′ work′ : List ℕ} (t : TakenIn (withMade r made) (take (length list - at) (drop at list)) table work k table′ work′) where
-      taken : TakenIn (withMade r made) d table work k table′ work′
-      taken = subst (λ p. TakenIn (withMade r made) p table work k table′ work′) (rest-of list at) t
+    module _ {g : Taken} {table′ work′ : List ℕ} (t : TakenIn (withMade r made) (take (length list - at) (drop at list)) table work g table′ work′) where
+      taken : TakenIn (withMade r made) d table work g table′ work′
+      taken = subst (λ p. TakenIn (withMade r made) p table work g table′ work′) (rest-of list at) t
 
-      pub head-turn : {e : ℕ} → e ≡ nextStart list at → Head r list table₀ work₀ k e table′ work′
-      head-turn {e} q = subst (λ j. Head r list table₀ work₀ k j table′ work′) (sym q) turned
+      pub head-turn : {m e : ℕ} → m ≡ g .left - 1 → e ≡ nextStart list at
+          → Head r list table₀ work₀ (g .made) (points + m) (edges + g .left) e table′ work′
+      head-turn {m} {e} fresh q = subst (λ j. Head r list table₀ work₀ (g .made) (points + m) (edges + g .left) j table′ work′) (sym q) turned
         where
-          ahead : folded (usual (r .n)) (stateIn (withMade r k) table′ work′ 0) (wordsOf (drop next list)) ≡ folded (usual (r .n)) start (wordsOf list)
+          ahead : folded (usual (r .n)) (stateIn (withMade r (g .made)) table′ work′ 0) (wordsOf (drop next list)) ≡ folded (usual (r .n)) start (wordsOf list)
           ahead =
               ap (λ s. folded (usual (r .n)) s (wordsOf (drop next list))) (taken .left .state)
               ∙ folded-more (usual (r .n)) (stateIn (withMade r made) table work 0) (firstWord d) (wordsOf (drop next list))
               ∙ ap (folded (usual (r .n)) (stateIn (withMade r made) table work 0)) (sym walk)
               ∙ h .ends
 
-          turned : Head r list table₀ work₀ k next table′ work′
+          turned : Head r list table₀ work₀ (g .made) (points + m) (edges + g .left) next table′ work′
           turned =
               record {
                 prepared = h .prepared;
                 inside = next-in list at next refl;
                 fit = taken-fit takeable taken;
                 words = subst (AllWords (usual (r .n))) walk (h .words) .1;
-                room = omega (arith, h .room, points, taken-points takeable taken);
+                room = omega (arith, h .room, more, taken-points takeable taken);
+                pointed = omega (arith, h .pointed, more, taken .letters, fresh);
+                edged = omega (arith, h .edged, longer, taken .letters);
                 ends = ahead;
                 table-same = taken .left .table-same ∙ h .table-same;
                 table-rest = taken .left .table-rest ∙ h .table-rest;
@@ -134,13 +147,32 @@ module _ {r : Room} {list table₀ work₀ : List ℕ} {made at : ℕ} {table wo
                 work-rest = taken-rest takeable taken ∙ h .work-rest;
               }
 
-  pub head-done : length list ≤ at → WordsIn r list table₀ work₀ made table work
-  unfolding folded wordsOf
+      -- the counts stay small
+      pub head-small : {m : ℕ} → m ≡ g .left - 1 → (points + m ≤ 1048578) × (edges + g .left ≤ 1048576)
+      head-small fresh =
+          let l = list-short (r .n) list (h .prepared .fine) in (
+            omega (arith, h .pointed, more, taken .letters, fresh, some-point (wordsOf (drop next list)), list-points list, l),
+            omega (arith, h .edged, longer, taken .letters, reducedLength-written (wordsOf list), written-letters list, l),
+          )
+
+  pub head-done : length list ≤ at → WordsIn r list table₀ work₀ (record { points = points; edges = edges }) table work
+  unfolding folded wordsOf startPoints reducedLength startGraph
   head-done l =
       record {
-        state = sym (ap (λ t. folded (usual (r .n)) (stateIn (withMade r made) table work 0) (wordsOf t)) (drop-of-length-le list {i = at} l)) ∙ h .ends;
+        sizes =
+            record {
+              points = omega (arith, h .pointed, ap (λ t. startPoints (wordsOf t)) none, length-upTo (startPoints (wordsOf list)));
+              edges = omega (arith, h .edged, ap (λ t. reducedLength (wordsOf t)) none, start-edges (wordsOf list));
+            };
+        state = subst (λ m. stateIn (withMade r m) table work 0 ≡ allIn r list) (ap (λ s. s .made) whole) whole;
         table-same = h .table-same;
         table-rest = h .table-rest;
         work-same = h .work-same;
         work-rest = h .work-rest;
       }
+    where
+      none : drop at list ≡ []
+      none = drop-of-length-le list {i = at} l
+
+      whole : stateIn (withMade r made) table work 0 ≡ allIn r list
+      whole = sym (ap (λ t. folded (usual (r .n)) (stateIn (withMade r made) table work 0) (wordsOf t)) none) ∙ h .ends

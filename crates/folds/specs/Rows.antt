@@ -1,5 +1,6 @@
 -- What the parts of `fold` ask and leave, cited by their contracts.
 --   Prepared r list table work  <-> the lent cells hold the base alone, and there is room for the list
+--   StartOf list g              <-> g is the size of the list's start graph
 --   WordsIn r list ..           <-> every word of the list has been taken in (engine, `folded`)
 --   Foldable n list table work  <-> nothing is refused; Built <-> the table and the work cells afterwards
 -- Assumes nothing.
@@ -12,9 +13,12 @@ use lib.ListN.{length, drop}
 use Rattle.theory.specs.Letters.{lettersIn, wordsOf, usual}
 use Rattle.theory.specs.Refusals.{textRefusal}
 use Rattle.theory.specs.Subgroups.{TableOf}
-use Rattle.engine.specs.Engine.{start, folded}
+use Rattle.theory.specs.Graphs.{startGraph}
+use Rattle.engine.specs.Engine.{State, start, folded}
 use Rattle.rooms.specs.declared.Room.{Room}
 use Rattle.rooms.specs.Rooms.{stateIn, withMade, Lent}
+use Rattle.lists.specs.declared.StartSize.{StartSize}
+use Rattle.folds.specs.declared.BuildSize.{BuildSize}
 use Rattle.folds.specs.Causes.{rowsOf, workOf}
 use Rattle.folds.specs.Folds.{Cleared}
 
@@ -24,8 +28,18 @@ pub record Prepared (r : Room) (list table work : List ℕ) : Type 0 where
   pub fine : textRefusal (r .n) true list ≡ none
   pub rows : r .rows ≡ rowsOf list
 
-pub record WordsIn (r : Room) (list table work : List ℕ) (made : ℕ) (table′ work′ : List ℕ) : Type 0 where
-  pub state : stateIn (withMade r made) table′ work′ 0 ≡ folded (usual (r .n)) start (wordsOf list)
+-- the state once every word is taken in
+abbrev pub allIn : Room → List ℕ → State
+allIn r list = folded (usual (r .n)) start (wordsOf list)
+
+-- the size of the start graph
+pub record StartOf (list : List ℕ) (g : StartSize) : Type 0 where
+  pub points : g .points ≡ length (startGraph (wordsOf list) .points)
+  pub edges : g .edges ≡ length (startGraph (wordsOf list) .edges)
+
+pub record WordsIn (r : Room) (list table work : List ℕ) (g : StartSize) (table′ work′ : List ℕ) : Type 0 where
+  pub sizes : StartOf list g
+  pub state : stateIn (withMade r (allIn r list .made)) table′ work′ 0 ≡ allIn r list
   pub table-same : length table′ ≡ length table
   pub table-rest : drop (r .rows * (2 * r .n)) table′ ≡ drop (r .rows * (2 * r .n)) table
   pub work-same : length work′ ≡ length work
@@ -36,6 +50,7 @@ pub record Foldable (n : ℕ) (list table work : List ℕ) : Type 0 where
   pub rows : rowsOf list * (2 * n) ≤ length table
   pub room : workOf list ≤ length work
 
-pub record Built (n : ℕ) (list table work : List ℕ) (N : ℕ) (table′ work′ : List ℕ) : Type 0 where
-  pub subgroup : TableOf n N table′ (wordsOf list)
-  pub cleared : Cleared n (rowsOf list) N table work table′ work′
+pub record Built (n : ℕ) (list table work : List ℕ) (b : BuildSize) (table′ work′ : List ℕ) : Type 0 where
+  pub subgroup : TableOf n (b .points) table′ (wordsOf list)
+  pub cleared : Cleared n (rowsOf list) (b .points) table work table′ work′
+  pub sizes : StartOf list (b .start)

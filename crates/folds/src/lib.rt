@@ -22,6 +22,12 @@ pub struct FoldFigures {
     pub closing: u64,
 }
 
+// What building a table says: its points, and the size of the start graph.
+pub struct BuildSize {
+    pub points: usize,
+    pub start: StartSize,
+}
+
 // What folding says.
 pub enum Folded {
     Refused(Refusal),
@@ -31,24 +37,29 @@ pub enum Folded {
 // The absent mark.
 const ABSENT: u32 = 4294967295;
 
-// Takes every word of the list in, each as the part of the list where it starts. Answers the points made.
-fn take_words(table: &mut [u32], work: &mut [u32], room: Room, list: &[u8]) -> usize
+// Takes every word of the list in, each as the part of the list where it starts. Answers the size of the start graph.
+fn take_words(table: &mut [u32], work: &mut [u32], room: Room, list: &[u8]) -> StartSize
     requires { ⌜ Prepared room (now list) (now table) (now work) ⌝ }
     ensures words { λ r. ⌜ WordsIn room (now (list .entry)) (now (table .entry)) (now (work .entry)) r (now (table .exit)) (now (work .exit)) ⌝ }
 {
     let n = room.n;
     let rows = room.rows;
     let mut made = room.made;
+    let mut points: usize = 1;
+    let mut edges: usize = 0;
     let mut at: usize = 0;
     while at < list.len() {
-        made = takes::take_in(table, work, Room { n, rows, made }, &list[at..]);
+        let taken = takes::take_in(table, work, Room { n, rows, made }, &list[at..]);
+        made = taken.made;
+        points += lists::new_points(taken.left);
+        edges += taken.left;
         at = lists::next_start(list, at);
     }
-    made
+    StartSize { points, edges }
 }
 
-// Builds the table of a list in a room of L + 1 rows, and answers its points. The work cells are 0 afterwards.
-pub fn build(n: usize, list: &[u8], table: &mut [u32], work: &mut [u32]) -> usize
+// Builds the table of a list in a room of L + 1 rows. The work cells are 0 afterwards.
+pub fn build(n: usize, list: &[u8], table: &mut [u32], work: &mut [u32]) -> BuildSize
     requires { ⌜ Foldable n (now list) (now table) (now work) ⌝ }
     ensures built { λ r. ⌜ Built n (now (list .entry)) (now (table .entry)) (now (work .entry)) r (now (table .exit)) (now (work .exit)) ⌝ }
 {
@@ -56,10 +67,10 @@ pub fn build(n: usize, list: &[u8], table: &mut [u32], work: &mut [u32]) -> usiz
     let rows = letters + 1;
     cells::fill(table, rows * (2 * n), ABSENT);
     cells::fill(work, 1, 0);
-    take_words(table, work, Room { n, rows, made: 1 }, list);
+    let start = take_words(table, work, Room { n, rows, made: 1 }, list);
     let points = numbering::number(table, n, rows);
     cells::fill(work, 8 * rows, 0);
-    points
+    BuildSize { points, start }
 }
 
 // What is said of a list where nothing is refused.
@@ -67,8 +78,9 @@ fn fold_lent(n: u64, list: &[u8], table: &mut [u32], work: &mut [u32]) -> Folded
     requires { ⌜ Foldable n (now list) (now table) (now work) ⌝ }
     ensures outcome { λ r. ⌜ FoldOutcome n (now (list .entry)) (now (table .entry)) (now (work .entry)) r (now (table .exit)) (now (work .exit)) ⌝ }
 {
-    let start = lists::start_size(list, work);
-    let points = build(n as usize, list, table, work) as u64;
+    let built = build(n as usize, list, table, work);
+    let start = built.start;
+    let points = built.points as u64;
     match tables::check(Subgroup { n, points }, table) {
         Checked::Refused(r) => Folded::Refused(r),
         Checked::Counted(counts) => Folded::Made(FoldFigures {

@@ -184,7 +184,7 @@ pub struct StartSize {
 }
 
 // The new points of a circle of `left` letters: one less than its letters.
-fn new_points(left: usize) -> usize
+pub fn new_points(left: usize) -> usize
     ensures new { λ r. ⌜ r ≡ left - 1 ⌝ }
 {
     if left == 0 { 0 } else { left - 1 }

@@ -4,12 +4,16 @@ use Rattle.asks.proofs.AskLaws.{build-asks, answered}
 use borrow.Author.Needs.{needs}
 use Rattle.asks.proofs.ask_lent.Statement.{statement}
 use Rattle.asks.proofs.ask_lent.Tie as tie
+use Rattle.asks.proofs.ask_lent.Reads as reads
+use Rattle.asks.proofs.ask_lent.Lts as lts
+use Rattle.folds.proofs.build.Reads as build-reads
+use Rattle.members.proofs.member.Reads as member-reads
 
--- src/lib.rt:51:18
+-- src/lib.rt:51:9
 build-requires : tie.Need-build-requires
 build-requires c κs = build-asks (c .before .before .before .before .before .before .pre)
 
--- src/lib.rt:52:5
+-- src/lib.rt:53:5
 member-requires : tie.Need-member-requires
 member-requires c κs = search needs
 
