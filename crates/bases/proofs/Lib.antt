@@ -5,3 +5,4 @@ pub mod PathedLaws
 pub mod SumLaws
 pub mod AnswerLaws
 pub mod Determined
+pub mod Refuted
