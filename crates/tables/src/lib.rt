@@ -80,7 +80,7 @@ fn place_of(s: Subgroup, table: &[u32], v: usize, y: usize) -> usize
 }
 
 // The cell of letter y at point v.
-fn cell_at(s: Subgroup, table: &[u32], v: usize, y: usize) -> u32
+pub fn cell_at(s: Subgroup, table: &[u32], v: usize, y: usize) -> u32
     requires { ⌜ Inside (s .n) (s .points) (now table) v y ⌝ }
     ensures cell { λ r. ⌜ r ≡ cell (s .n) (s .points) (now (table .entry)) v y ⌝ }
 {

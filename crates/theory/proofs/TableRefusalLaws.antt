@@ -210,7 +210,7 @@ text-decides n lines text =
     go none e = refusal-none n lines text e
     go (some r) e = refusal-first n lines text r e
 
-alphabet-decides : (n : ℕ) → Decides (Only 1 (Cause1 n)) (refusedIf (not (isAlphabet n)) 1 0)
+pub alphabet-decides : (n : ℕ) → Decides (Only 1 (Cause1 n)) (refusedIf (not (isAlphabet n)) 1 0)
 alphabet-decides n =
     only-if 1 (not (isAlphabet n)) 0 (λ e. (refl, λ h. false-true (not-true _ e) (in-alphabet n (h .0) (h .1))))
     (λ q c. (byTest (isAlphabet n) (λ e. absurd (c .1 (alphabet-in n e))) (λ e. ap not e), c .0))
@@ -244,12 +244,12 @@ fails-lent n N cells e = (
       (λ c. absurd (true≢false (sym (in-lent n N cells (omega arith) (omega arith) (omega arith)) ∙ e))))))),
 )
 
-lent-decides : (n N cells : ℕ) → Decides (Only 6 (Cause6Lent n N cells)) (refusedIf (not (isLent n N cells)) 6 0)
+pub lent-decides : (n N cells : ℕ) → Decides (Only 6 (Cause6Lent n N cells)) (refusedIf (not (isLent n N cells)) 6 0)
 lent-decides n N cells =
     only-if 6 (not (isLent n N cells)) 0 (λ e. fails-lent n N cells (not-true _ e))
     (λ q c. (byTest (isLent n N cells) (λ e. absurd (lent-fails n N cells q c e)) (λ e. ap not e), c .0))
 
-short-decides : (needed room : ℕ) → Decides (Only 7 (CauseShort needed room)) (refusedIf (ltb room needed) 7 needed)
+pub short-decides : (needed room : ℕ) → Decides (Only 7 (CauseShort needed room)) (refusedIf (ltb room needed) 7 needed)
 short-decides needed room =
     only-if 7 (ltb room needed) needed (λ e. (refl, ltb-true room needed e)) (λ q c. (lt-ltb room needed (c .1), c .0))
 
@@ -267,7 +267,7 @@ cells-least n N t small = go (faultyCell N (usual n) (cell n N t)) refl
       λ q h c. let z = Option·some-injective q p (sym (found q c) ∙ e) in omega arith,
     )
 
-cells-decide : (n N : ℕ) (t : List ℕ) → N ≤ absent → Decides (Only 8 (Cause8 n N t)) (cellRefusal n N t)
+pub cells-decide : (n N : ℕ) (t : List ℕ) → N ≤ absent → Decides (Only 8 (Cause8 n N t)) (cellRefusal n N t)
 unfolding cellRefusal
 cells-decide n N t small = go (faultyCell N (usual n) (cell n N t)) (cells-least n N t small)
   where
@@ -276,7 +276,7 @@ cells-decide n N t small = go (faultyCell N (usual n) (cell n N t)) (cells-least
     go (some p) h = only-at 8 (some p) h
 
 -- where 6 does not apply there are no more points than marks
-points-small : (n N cells : ℕ) → ((k p : ℕ) → Only 6 (Cause6Lent n N cells) k p → ⊥) → N ≤ absent
+pub points-small : (n N cells : ℕ) → ((k p : ℕ) → Only 6 (Cause6Lent n N cells) k p → ⊥) → N ≤ absent
 points-small n N cells clear = by-cases (decLt pointLimit N) (λ h. absurd (clear 6 0 (refl, (refl, inr (inl h))))) (λ h. omega arith)
 
 -- ── `check` ──

@@ -1,0 +1,8 @@
+-- Laws of this crate, a file a notion.
+pub mod ChainLaws
+pub mod SpotLaws
+pub mod PathedLaws
+pub mod SumLaws
+pub mod AnswerLaws
+pub mod Determined
+pub mod Refuted

@@ -1,0 +1,4 @@
+-- Laws of this crate's steps and of its pass, a file a notion.
+pub mod NoteLaws
+pub mod PathTurn
+pub mod Determined
