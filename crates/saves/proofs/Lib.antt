@@ -3,3 +3,6 @@ pub mod RunLaws
 pub mod HeadLaws
 pub mod CellLaws
 pub mod SaveLaws
+pub mod CauseLaws
+pub mod Determined
+pub mod Saves
