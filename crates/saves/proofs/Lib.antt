@@ -6,3 +6,4 @@ pub mod SaveLaws
 pub mod CauseLaws
 pub mod Determined
 pub mod Saves
+pub mod ListFiles
