@@ -1,0 +1,55 @@
+-- Two lists with one file are the same (theory's `listFile`).
+--   split-one     : two runs of as many numbers, each before other bytes
+--   list-file-one : two lists whose letters and lengths are numbers and that have one file are the same
+-- Assumes nothing.
+use mathlib.Core.Path.{_≡_, refl, sym, _∙_, ap}
+use mathlib.Core.List.{List, [], _∷_, _++_, append-assoc}
+use Prim.Native.Nat.{ℕ, _≤_}
+use native.Mathlib.Omega.{arith}
+use lib.ListN.{length}
+use Rattle.theory.specs.Files.{numberLimit, numberBytes, numbersBytes, wordNumbers, listFile}
+use Rattle.numbers.proofs.Numbers.{number-one, AllFit}
+use Rattle.saves.proofs.RunLaws.{numbers-append}
+
+pub split-one : (xs ys l m : List ℕ) → AllFit xs → AllFit ys → length xs ≡ length ys → numbersBytes xs ++ l ≡ numbersBytes ys ++ m
+    → (xs ≡ ys) × (l ≡ m)
+unfolding numbersBytes
+split-one [] [] l m a b e f = (refl, f)
+split-one [] (y ∷ ys) l m a b e f = absurd (omega (arith, e))
+split-one (x ∷ xs) [] l m a b e f = absurd (omega (arith, e))
+split-one (x ∷ xs) (y ∷ ys) l m a b e f =
+    let h = number-one x y (numbersBytes xs ++ l) (numbersBytes ys ++ m) (a .0) (b .0)
+    (sym (append-assoc (numberBytes x) (numbersBytes xs) l) ∙ f ∙ append-assoc (numberBytes y) (numbersBytes ys) m) in
+    let r = split-one xs ys l m (a .1) (b .1) (omega (arith, e)) (h .1) in
+    (ap (λ z. z ∷ xs) (h .0) ∙ ap (λ k. y ∷ k) (r .0), r .1)
+
+-- every word's length and every letter is a number
+abbrev pub WordsFit : List (List ℕ) → Type 0
+WordsFit [] = Unit {0}
+WordsFit (w ∷ ws) = (length w ≤ numberLimit) × AllFit w × WordsFit ws
+
+-- a word's numbers stand before those of the others
+word-first : (w : List ℕ) (ws : List (List ℕ))
+    → numbersBytes (wordNumbers (w ∷ ws)) ≡ numberBytes (length w) ++ (numbersBytes w ++ numbersBytes (wordNumbers ws))
+unfolding numbersBytes wordNumbers
+word-first w ws = ap (λ l. numberBytes (length w) ++ l) (numbers-append w (wordNumbers ws))
+
+words-one : (ws us : List (List ℕ)) → WordsFit ws → WordsFit us → length ws ≡ length us
+    → numbersBytes (wordNumbers ws) ≡ numbersBytes (wordNumbers us) → ws ≡ us
+words-one [] [] a b e f = refl
+words-one [] (u ∷ us) a b e f = absurd (omega (arith, e))
+words-one (w ∷ ws) [] a b e f = absurd (omega (arith, e))
+words-one (w ∷ ws) (u ∷ us) a b e f =
+    let h = number-one (length w) (length u) (numbersBytes w ++ numbersBytes (wordNumbers ws)) (numbersBytes u ++ numbersBytes (wordNumbers us))
+    (a .0) (b .0) (sym (word-first w ws) ∙ f ∙ word-first u us) in
+    let r = split-one w u (numbersBytes (wordNumbers ws)) (numbersBytes (wordNumbers us)) (a .1) (b .1) (h .0) (h .1) in
+    ap (λ z. z ∷ ws) (r .0) ∙ ap (λ k. u ∷ k) (words-one ws us (a .2) (b .2) (omega (arith, e)) (r .1))
+
+pub list-file-one : (n m : ℕ) (ws us : List (List ℕ)) → n ≤ 26 → m ≤ 26 → length ws ≤ numberLimit → length us ≤ numberLimit
+    → WordsFit ws → WordsFit us → listFile n ws ≡ listFile m us → (n ≡ m) × (ws ≡ us)
+unfolding listFile numbersBytes
+list-file-one n m ws us hn hm lw lu fw fu f =
+    let a = number-one 2 2 (numbersBytes (n ∷ length ws ∷ wordNumbers ws)) (numbersBytes (m ∷ length us ∷ wordNumbers us)) (omega arith) (omega arith) f in
+    let b = number-one n m (numbersBytes (length ws ∷ wordNumbers ws)) (numbersBytes (length us ∷ wordNumbers us)) (omega arith) (omega arith) (a .1) in
+    let c = number-one (length ws) (length us) (numbersBytes (wordNumbers ws)) (numbersBytes (wordNumbers us)) lw lu (b .1) in
+    (b .0, words-one ws us fw fu (c .0) (c .1))

@@ -1,0 +1,130 @@
+// Saving: a canonical table as a file of kind 1.
+ghost use mathlib.Core.Path.{_≡_};
+ghost use mathlib.Core.Option.{none};
+ghost use mathlib.Core.List.{[], _∷_};
+ghost use Prim.Native.Nat.{_+_, _*_, _≤_};
+ghost use lib.ListN.{length};
+ghost use Rattle.theory.specs.Files.{cellNumber, numbersBytes, numberLimit, tableFile};
+ghost use Rattle.theory.specs.TableRefusals.{checkRefusal};
+ghost use Rattle.numbers.specs.Splices.{WrittenAt};
+ghost use Rattle.saves.specs.Runs.{cellNumbers, Savable};
+ghost use Rattle.saves.specs.Saves.{SaveTableOutcome};
+use refusals::Refusal;
+use tables::Checked;
+use tables::Subgroup;
+
+// What saving says: a refusal, or how many bytes are written.
+pub enum Saved {
+    Refused(Refusal),
+    Written(u64),
+}
+
+// The absent mark.
+const ABSENT: u32 = 4294967295;
+
+// The number of a cell: 0 for absent, otherwise the point + 1.
+fn number_of(x: u32) -> u64
+    ensures number { λ r. ⌜ (r ≡ cellNumber x) × (r ≤ numberLimit) ⌝ }
+{
+    if x == ABSENT {
+        return 0;
+    }
+    x as u64 + 1
+}
+
+// The bytes that the first `count` cells take.
+fn cells_size(table: &[u32], count: usize) -> usize
+    requires { ⌜ (count ≤ length (now table)) × (count ≤ 54526004) ⌝ }
+    ensures size { λ r. ⌜ r ≡ length (numbersBytes (cellNumbers count (now (table .entry)))) ⌝ }
+{
+    let mut size: usize = 0;
+    let mut i: usize = 0;
+    while i < count {
+        size += numbers::number_size(number_of(table[i]));
+        i += 1;
+    }
+    size
+}
+
+// Writes the numbers of the first `count` cells from place `at` on, and answers the place behind them.
+fn write_cells(table: &[u32], count: usize, out: &mut [u8], at: usize) -> usize
+    requires { ⌜ (count ≤ length (now table)) × (at + length (numbersBytes (cellNumbers count (now table))) ≤ length (now out)) ⌝ }
+    ensures written { λ r. ⌜ WrittenAt at (numbersBytes (cellNumbers count (now (table .entry)))) (now (out .entry)) r (now (out .exit)) ⌝ }
+{
+    let mut p = at;
+    let mut i: usize = 0;
+    while i < count {
+        p = numbers::write_number(out, p, number_of(table[i]));
+        i += 1;
+    }
+    p
+}
+
+// The bytes that the kind, n and a count take: the first two take one each.
+fn head_size(kind: u64, n: u64, count: u64) -> usize
+    requires { ⌜ (kind ≤ 127) × (n ≤ 127) × (count ≤ numberLimit) ⌝ }
+    ensures size { λ r. ⌜ r ≡ length (numbersBytes (kind ∷ n ∷ count ∷ [])) ⌝ }
+{
+    2 + numbers::number_size(count)
+}
+
+// Writes the kind, n and a count, and answers the place behind them.
+fn write_head(out: &mut [u8], kind: u64, n: u64, count: u64) -> usize
+    requires { ⌜ (kind ≤ 127) × (n ≤ 127) × (count ≤ numberLimit) × (length (numbersBytes (kind ∷ n ∷ count ∷ [])) ≤ length (now out)) ⌝ }
+    ensures written { λ r. ⌜ WrittenAt 0 (numbersBytes (kind ∷ n ∷ count ∷ [])) (now (out .entry)) r (now (out .exit)) ⌝ }
+{
+    let first = numbers::write_number(out, 0, kind);
+    let second = numbers::write_number(out, first, n);
+    numbers::write_number(out, second, count)
+}
+
+// The cells of a table.
+fn cell_count(s: Subgroup, cells: usize) -> usize
+    requires { ⌜ Savable (s .n) (s .points) cells ⌝ }
+    ensures count { λ r. ⌜ (r ≡ s .points * (2 * s .n)) × (r ≤ 54526004) ⌝ }
+{
+    (s.points as usize) * (2 * (s.n as usize))
+}
+
+// The bytes of a table's file.
+fn table_size(s: Subgroup, table: &[u32]) -> usize
+    requires { ⌜ Savable (s .n) (s .points) (length (now table)) ⌝ }
+    ensures size { λ r. ⌜ r ≡ length (tableFile (s .n) (s .points) (now (table .entry))) ⌝ }
+{
+    let count = cell_count(s, table.len());
+    let head = head_size(1, s.n, s.points);
+    head + cells_size(table, count)
+}
+
+// Writes a table's file.
+fn write_table(s: Subgroup, table: &[u32], out: &mut [u8]) -> usize
+    requires { ⌜ Savable (s .n) (s .points) (length (now table)) × (length (tableFile (s .n) (s .points) (now table)) ≤ length (now out)) ⌝ }
+    ensures written { λ r. ⌜ WrittenAt 0 (tableFile (s .n) (s .points) (now (table .entry))) (now (out .entry)) r (now (out .exit)) ⌝ }
+{
+    let count = cell_count(s, table.len());
+    let at = write_head(out, 1, s.n, s.points);
+    write_cells(table, count, out, at)
+}
+
+// Saves a canonical table, or refuses: 9. The length is known before anything is written.
+fn save_checked(s: Subgroup, table: &[u32], out: &mut [u8]) -> Saved
+    requires { ⌜ checkRefusal (s .n) (s .points) (now table) ≡ none ⌝ }
+    ensures outcome { λ r. ⌜ SaveTableOutcome (s .n) (s .points) (now (table .entry)) (now (out .entry)) r (now (out .exit)) ⌝ }
+{
+    let needed = table_size(s, table);
+    if out.len() < needed {
+        return Saved::Refused(refusals::refuse(9, needed as u64));
+    }
+    let end = write_table(s, table, out);
+    Saved::Written(end as u64)
+}
+
+// Saves a table handed in as a file of kind 1, or refuses: 1, 6, 8, 9.
+pub fn save_table(s: Subgroup, table: &[u32], out: &mut [u8]) -> Saved
+    ensures outcome { λ r. ⌜ SaveTableOutcome (s .n) (s .points) (now (table .entry)) (now (out .entry)) r (now (out .exit)) ⌝ }
+{
+    match tables::check(s, table) {
+        Checked::Refused(r) => Saved::Refused(r),
+        Checked::Counted(_) => save_checked(s, table, out),
+    }
+}
