@@ -4,12 +4,8 @@ use Rattle.bases.proofs.SumLaws.{Sum, sum-first, sum-small, sum-turn, s
 use Rattle.bases.proofs.PathedLaws.{pathed-sizes}
 use Prim.Native.Nat.{_-_}
 use native.Mathlib.Omega.{arith}
-use borrow.Author.Needs.{needs}
 use Rattle.bases.proofs.add_row.Statement.{statement}
 use Rattle.bases.proofs.add_row.Tie as tie
-use Rattle.bases.proofs.add_row.Reads as reads
-use Rattle.bases.proofs.add_row.Lts as lts
-use Rattle.bases.proofs.add_word.Reads as add-word-reads
 
 abbrev Inv-loop : tie.InvT-loop
 Inv-loop s table work v w sum₀ y₀ sum y = Sum (s .n) (s .points) table v sum₀ y sum
@@ -17,31 +13,24 @@ Inv-loop s table work v w sum₀ y₀ sum y = Sum (s .n) (s .points) table v sum
 abbrev μ-loop : tie.MeasureT-loop
 μ-loop s table work v w sum₀ y₀ sum y = w - y
 
--- src/lib.rt:109:13
 mul-w : tie.Need-mul-w Inv-loop μ-loop
 mul-w c = omega (arith, (pathed-sizes (c .before .before .pre .0)) .letters)
 
--- src/lib.rt:112:5
 loop-holds : tie.Need-loop-holds Inv-loop μ-loop
 loop-holds c = sum-first (c .before .before .pre .0) (c .before .before .pre .1) (c .before .before .pre .2)
 
--- src/lib.rt:113:9
 add-word-requires : tie.Need-add-word-requires Inv-loop μ-loop
 add-word-requires c κs = let b = sum-small (c .before .before .before .before .pre .0) (c .before .before .before .before .pre .1) (c .before .before .before .before .pre .2) (c .before .loop .inv) in (record { pathed = (c .before .before .before .before .pre .0); point = (c .before .before .before .before .pre .1); letter = (c .loop-test .taken) }, b .0, b .1)
 
--- src/lib.rt:114:9
 add-y : tie.Need-add-y Inv-loop μ-loop
 add-y c = omega (arith, (pathed-sizes (c .before .before .before .before .before .pre .0)) .letters, (c .before .loop-test .taken))
 
--- src/lib.rt:112:5
 loop-less : tie.Need-loop-less Inv-loop μ-loop
 loop-less c = omega (arith, (c .before .loop-test .taken))
 
--- src/lib.rt:112:5
 loop-again : tie.Need-loop-again Inv-loop μ-loop
 loop-again c = sum-turn (c .before .before .before .before .before .pre .0) (c .before .before .before .before .before .pre .1) (c .before .before .before .before .before .pre .2) (c .before .before .loop .inv) (c .before .loop-test .taken) (c .add-word .ensures)
 
--- src/lib.rt:105:1
 returns : tie.Need-returns Inv-loop μ-loop
 returns c = sum-done (c .before .before .before .before .pre .0) (c .before .before .before .before .pre .1) (c .before .before .before .before .pre .2) (c .before .loop .inv) (c .loop-test .left)
 

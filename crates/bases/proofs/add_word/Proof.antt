@@ -8,61 +8,43 @@ use native.Mathlib.Omega.{arith}
 use borrow.Author.Needs.{needs}
 use Rattle.bases.proofs.add_word.Statement.{statement}
 use Rattle.bases.proofs.add_word.Tie as tie
-use Rattle.bases.proofs.add_word.Reads as reads
-use Rattle.bases.proofs.add_word.Lts as lts
-use Rattle.bases.proofs.depth.Reads as depth-reads
-use Rattle.bases.proofs.is_outside.Reads as is-outside-reads
-use Rattle.tables.proofs.cell_at.Reads as cell-at-reads
 
--- src/lib.rt:92:9
 is-outside-requires : tie.Need-is-outside-requires
 is-outside-requires c κs = (c .before .before .pre .0)
 
--- src/lib.rt:93:9
 returns : tie.Need-returns
 returns c = size-used _ _ _ (c .before .before .before .before .args .size) _ (sym (c .before .is-outside .ensures) ∙ not-true _ (c .if1 .taken))
 
--- src/lib.rt:96:13
 cell-at-requires : tie.Need-cell-at-requires
 cell-at-requires c κs = record { alphabet = (c .before .before .before .before .pre .0 .pathed .ready .alphabet); lent = (c .before .before .before .before .pre .0 .pathed .ready .lent); point = (c .before .before .before .before .pre .0 .point); letter = (c .before .before .before .before .pre .0 .letter) }
 
--- src/lib.rt:96:13
 cast-x : tie.Need-cast-x
 cast-x c = search needs
 
--- src/lib.rt:97:16
 depth-requires : tie.Need-depth-requires
 depth-requires c κs = ((c .before .before .before .before .before .pre .0 .point), (c .before .before .before .before .before .pre .0 .pathed .ready .room-for))
 
--- src/lib.rt:97:16
 cast-line : tie.Need-cast-line
 cast-line c = search needs
 
--- src/lib.rt:97:48
 depth-requires-2 : tie.Need-depth-requires-2
 depth-requires-2 c κs = (far-in (c .before .before .before .before .before .before .pre .0 .pathed) _ _ (c .before .before .before .before .before .before .pre .0 .point) (c .before .before .before .before .before .before .pre .0 .letter) (c .before .cell-at .ensures) (sym (c .before .before .before .is-outside .ensures) ∙ not-false _ (c .before .before .if1 .left)), (c .before .before .before .before .before .before .pre .0 .pathed .ready .room-for))
 
--- src/lib.rt:97:48
 cast-line-2 : tie.Need-cast-line-2
 cast-line-2 c = search needs
 
--- src/lib.rt:97:16
 add-line : tie.Need-add-line
 add-line c = search needs
 
--- src/lib.rt:97:16
 add-line-2 : tie.Need-add-line-2
 add-line-2 c = search needs
 
--- src/lib.rt:99:16
 add-t15 : tie.Need-add-t15
 add-t15 c = search needs
 
--- src/lib.rt:100:16
 add-t18 : tie.Need-add-t18
 add-t18 c = search needs
 
--- src/lib.rt:86:1
 returns-2 : tie.Need-returns-2
 returns-2 c = size-line (c .before .before .before .before .before .before .before .pre .0 .pathed) (c .before .before .before .before .before .before .before .pre .0 .point) (c .before .before .before .before .before .before .before .pre .0 .letter) (c .before .before .before .before .before .before .before .args .size) (c .before .before .cell-at .ensures) (sym (c .before .before .before .before .is-outside .ensures) ∙ not-false _ (c .before .before .before .if1 .left)) (omega (arith, (c .before .depth .ensures), (c .depth2 .ensures)))
 

@@ -5,26 +5,19 @@ use mathlib.Core.Path.{refl}
 use borrow.Author.Needs.{needs}
 use Rattle.bases.proofs.depth.Statement.{statement}
 use Rattle.bases.proofs.depth.Tie as tie
-use Rattle.bases.proofs.depth.Reads as reads
-use Rattle.bases.proofs.depth.Lts as lts
 
--- src/lib.rt:82:10
 mul-result : tie.Need-mul-result
 mul-result c = search needs
 
--- src/lib.rt:82:10
 add-result : tie.Need-add-result
 add-result c = search needs
 
--- src/lib.rt:82:5
 mul-result-2 : tie.Need-mul-result-2
 mul-result-2 c = search needs
 
--- src/lib.rt:82:5
 shared-slice-read-result : tie.Need-shared-slice-read-result
 shared-slice-read-result c = search needs
 
--- src/lib.rt:78:1
 returns : tie.Need-returns
 returns c = unfold depthOf in refl
 

@@ -9,73 +9,52 @@ use native.Mathlib.Omega.{arith}
 use borrow.Author.Needs.{needs}
 use Rattle.bases.proofs.early_cause.Statement.{statement}
 use Rattle.bases.proofs.early_cause.Tie as tie
-use Rattle.bases.proofs.early_cause.Reads as reads
-use Rattle.bases.proofs.early_cause.Lts as lts
-use Rattle.refusals.proofs.refuse.Reads as refuse-reads
-use Rattle.tables.proofs.is_lent.Reads as is-lent-reads
-use Rattle.tables.proofs.walk.Reads as walk-reads
 
--- src/lib.rt:252:29
 refuse-requires : tie.Need-refuse-requires
 refuse-requires c κs = search needs
 
--- src/lib.rt:252:9
 returns : tie.Need-returns
 returns c = early-alphabet _ _ _ _ (below-alphabet _ (omega (arith, (c .before .if1 .taken)))) (c .refuse .ensures)
 
--- src/lib.rt:255:29
 refuse-requires-2 : tie.Need-refuse-requires-2
 refuse-requires-2 c κs = search needs
 
--- src/lib.rt:255:9
 returns-2 : tie.Need-returns-2
 returns-2 c = early-alphabet _ _ _ _ (above-alphabet _ (omega (arith, (c .before .before .if1 .left))) (omega (arith, (c .before .if2 .taken)))) (c .refuse2 .ensures)
 
--- src/lib.rt:257:9
 is-lent-requires : tie.Need-is-lent-requires
 is-lent-requires c κs = in-alphabet _ (omega (arith, (c .before .if1 .left))) (omega (arith, (c .if2 .left)))
 
--- src/lib.rt:258:29
 refuse-requires-3 : tie.Need-refuse-requires-3
 refuse-requires-3 c κs = search needs
 
--- src/lib.rt:258:9
 returns-3 : tie.Need-returns-3
 returns-3 c = early-lent _ _ _ _ (in-alphabet _ (omega (arith, (c .before .before .before .before .if1 .left))) (omega (arith, (c .before .before .before .if2 .left)))) (c .before .before .is-lent .ensures) (not-true _ (c .before .if3 .taken)) (c .refuse3 .ensures)
 
--- src/lib.rt:260:18
 mul-needed : tie.Need-mul-needed
 mul-needed c = omega (arith, (sizes (in-alphabet _ (omega (arith, (c .before .before .before .before .if1 .left))) (omega (arith, (c .before .before .before .if2 .left)))) (sym (c .before .before .is-lent .ensures) ∙ not-false _ (c .before .if3 .left))) .points)
 
--- src/lib.rt:262:29
 refuse-requires-4 : tie.Need-refuse-requires-4
 refuse-requires-4 c κs = search needs
 
--- src/lib.rt:262:9
 returns-4 : tie.Need-returns-4
 returns-4 c = early-short _ _ _ _ (in-alphabet _ (omega (arith, (c .before .before .before .before .before .before .if1 .left))) (omega (arith, (c .before .before .before .before .before .if2 .left)))) (sym (c .before .before .before .before .is-lent .ensures) ∙ not-false _ (c .before .before .before .if3 .left)) (c .before .if4 .taken) (c .refuse4 .ensures)
 
--- src/lib.rt:264:11
 walk-requires : tie.Need-walk-requires
 walk-requires c κs = (in-alphabet _ (omega (arith, (c .before .before .before .before .before .if1 .left))) (omega (arith, (c .before .before .before .before .if2 .left))), sym (c .before .before .before .is-lent .ensures) ∙ not-false _ (c .before .before .if3 .left))
 
--- src/lib.rt:265:24
 enum-known-p : tie.Need-enum-known-p
 enum-known-p c = search needs
 
--- src/lib.rt:265:43
 refuse-requires-5 : tie.Need-refuse-requires-5
 refuse-requires-5 c κs = search needs
 
--- src/lib.rt:266:32
 enum-told : tie.Need-enum-told
 enum-told c = search needs
 
--- src/lib.rt:247:1
 returns-5 : tie.Need-returns-5
 returns-5 c = early-faulty _ _ _ _ (in-alphabet _ (omega (arith, (c .before .before .before .before .before .before .before .before .before .before .if1 .left))) (omega (arith, (c .before .before .before .before .before .before .before .before .before .if2 .left)))) (sym (c .before .before .before .before .before .before .before .before .is-lent .ensures) ∙ not-false _ (c .before .before .before .before .before .before .before .if3 .left)) (c .before .before .before .before .before .if4 .left) (c .before .before .before .before .walk .ensures) (c .before .before .p .given .1) (c .refuse5 .ensures)
 
--- src/lib.rt:247:1
 returns-6 : tie.Need-returns-6
 returns-6 c = early-sound _ _ _ _ (in-alphabet _ (omega (arith, (c .before .before .before .before .before .before .before .before .if1 .left))) (omega (arith, (c .before .before .before .before .before .before .before .if2 .left)))) (sym (c .before .before .before .before .before .before .is-lent .ensures) ∙ not-false _ (c .before .before .before .before .before .if3 .left)) (c .before .before .before .if4 .left) (c .before .before .walk .ensures) (c .enum-told .given .1)
 

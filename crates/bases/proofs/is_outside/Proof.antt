@@ -5,57 +5,40 @@ use native.Mathlib.Omega.{arith}
 use borrow.Author.Needs.{needs}
 use Rattle.bases.proofs.is_outside.Statement.{statement}
 use Rattle.bases.proofs.is_outside.Tie as tie
-use Rattle.bases.proofs.is_outside.Reads as reads
-use Rattle.bases.proofs.is_outside.Lts as lts
-use Rattle.bases.proofs.is_step.Reads as is-step-reads
-use Rattle.letters.proofs.inverse.Reads as inverse-reads
-use Rattle.tables.proofs.cell_at.Reads as cell-at-reads
 
--- src/lib.rt:64:9
 returns : tie.Need-returns
 returns c = outside-capital (c .before .before .before .pre .pathed) _ _ (c .if1 .taken)
 
--- src/lib.rt:66:9
 cell-at-requires : tie.Need-cell-at-requires
 cell-at-requires c κs = record { alphabet = (c .before .before .before .pre .pathed .ready .alphabet); lent = (c .before .before .before .pre .pathed .ready .lent); point = (c .before .before .before .pre .point); letter = (c .before .before .before .pre .letter) }
 
--- src/lib.rt:68:9
 returns-2 : tie.Need-returns-2
 returns-2 c = outside-absent (c .before .before .before .before .before .pre .pathed) _ _ (c .before .cell-at .ensures) (c .before .before .if1 .left) (c .if2 .taken)
 
--- src/lib.rt:71:30
 cast-is-step : tie.Need-cast-is-step
 cast-is-step c = omega (arith, (pathed-sizes (c .before .before .before .before .before .pre .pathed)) .points, (c .before .before .before .before .before .pre .point))
 
--- src/lib.rt:71:40
 cast-is-step-2 : tie.Need-cast-is-step-2
 cast-is-step-2 c = omega (arith, (pathed-sizes (c .before .before .before .before .before .pre .pathed)) .letters, (c .before .before .before .before .before .pre .letter))
 
--- src/lib.rt:71:50
 cast-is-step-3 : tie.Need-cast-is-step-3
 cast-is-step-3 c = search needs
 
--- src/lib.rt:71:8
 is-step-requires : tie.Need-is-step-requires
 is-step-requires c κs = (target-in (c .before .before .before .before .before .pre .pathed) _ _ (c .before .cell-at .ensures) (c .before .before .if1 .left) (c .if2 .left), (c .before .before .before .before .before .pre .pathed .ready .room-for))
 
--- src/lib.rt:72:9
 returns-3 : tie.Need-returns-3
 returns-3 c = outside-forth (c .before .before .before .before .before .before .before .pre .pathed) _ _ (c .before .before .before .cell-at .ensures) (c .before .before .before .before .if1 .left) (c .before .before .if2 .left) (c .before .is-step .ensures) (c .if3 .taken)
 
--- src/lib.rt:74:48
 cast-inverse : tie.Need-cast-inverse
 cast-inverse c = omega (arith, (pathed-sizes (c .before .before .before .before .before .before .before .pre .pathed)) .letters, (c .before .before .before .before .before .before .before .pre .letter))
 
--- src/lib.rt:74:31
 inverse-requires : tie.Need-inverse-requires
 inverse-requires c κs = search needs
 
--- src/lib.rt:74:6
 is-step-requires-2 : tie.Need-is-step-requires-2
 is-step-requires-2 c κs = search needs
 
--- src/lib.rt:59:1
 returns-4 : tie.Need-returns-4
 returns-4 c = outside-back (c .before .before .before .before .before .before .before .before .before .pre .pathed) _ _ (c .before .before .before .before .before .cell-at .ensures) (c .before .before .before .before .before .before .if1 .left) (c .before .before .before .before .if2 .left) (c .before .before .before .before .before .before .before .before .before .pre .point) (c .before .before .before .is-step .ensures) (c .before .before .if3 .left) (c .before .inverse .ensures) (c .is-step2 .ensures)
 

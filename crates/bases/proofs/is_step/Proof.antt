@@ -4,38 +4,28 @@ use Rattle.bases.proofs.ChainLaws.{step-base, step-other, step-last}
 use borrow.Author.Needs.{needs}
 use Rattle.bases.proofs.is_step.Statement.{statement}
 use Rattle.bases.proofs.is_step.Tie as tie
-use Rattle.bases.proofs.is_step.Reads as reads
-use Rattle.bases.proofs.is_step.Lts as lts
 
--- src/lib.rt:50:9
 returns : tie.Need-returns
 returns c = step-base _ _ _ _ _ (c .if1 .taken)
 
--- src/lib.rt:52:8
 mul-if2 : tie.Need-mul-if2
 mul-if2 c = search needs
 
--- src/lib.rt:52:8
 shared-slice-read-if2 : tie.Need-shared-slice-read-if2
 shared-slice-read-if2 c = search needs
 
--- src/lib.rt:53:9
 returns-2 : tie.Need-returns-2
 returns-2 c = step-other _ _ _ _ _ (c .before .before .if1 .left) (c .if2 .taken)
 
--- src/lib.rt:55:10
 add-result : tie.Need-add-result
 add-result c = search needs
 
--- src/lib.rt:55:5
 mul-result : tie.Need-mul-result
 mul-result c = search needs
 
--- src/lib.rt:55:5
 shared-slice-read-result : tie.Need-shared-slice-read-result
 shared-slice-read-result c = search needs
 
--- src/lib.rt:45:1
 returns-3 : tie.Need-returns-3
 returns-3 c = step-last _ _ _ _ _ (c .before .before .before .if1 .left) (c .before .if2 .left)
 

@@ -4,12 +4,8 @@ use Rattle.bases.proofs.SumLaws.{Sums, sums-first, sums-turn, sums-done
 use Rattle.bases.proofs.PathedLaws.{pathed-sizes}
 use Prim.Native.Nat.{_-_}
 use native.Mathlib.Omega.{arith}
-use borrow.Author.Needs.{needs}
 use Rattle.bases.proofs.measure.Statement.{statement}
 use Rattle.bases.proofs.measure.Tie as tie
-use Rattle.bases.proofs.measure.Reads as reads
-use Rattle.bases.proofs.measure.Lts as lts
-use Rattle.bases.proofs.add_row.Reads as add-row-reads
 
 abbrev Inv-loop : tie.InvT-loop
 Inv-loop s table work points size₀ v₀ size v = Sums (s .n) (s .points) table v size
@@ -17,27 +13,21 @@ Inv-loop s table work points size₀ v₀ size v = Sums (s .n) (s .points) table
 abbrev μ-loop : tie.MeasureT-loop
 μ-loop s table work points size₀ v₀ size v = points - v
 
--- src/lib.rt:124:5
 loop-holds : tie.Need-loop-holds Inv-loop μ-loop
 loop-holds c = sums-first (c .before .before .pre)
 
--- src/lib.rt:125:9
 add-row-requires : tie.Need-add-row-requires Inv-loop μ-loop
 add-row-requires c κs = ((c .before .before .before .before .pre), (c .loop-test .taken), (c .before .loop .inv .small))
 
--- src/lib.rt:126:9
 add-v : tie.Need-add-v Inv-loop μ-loop
 add-v c = omega (arith, (pathed-sizes (c .before .before .before .before .before .pre)) .points, (c .before .loop-test .taken))
 
--- src/lib.rt:124:5
 loop-less : tie.Need-loop-less Inv-loop μ-loop
 loop-less c = omega (arith, (c .before .loop-test .taken))
 
--- src/lib.rt:124:5
 loop-again : tie.Need-loop-again Inv-loop μ-loop
 loop-again c = sums-turn (c .before .before .before .before .before .pre) (c .before .before .loop .inv) (c .before .loop-test .taken) (c .add-row .ensures)
 
--- src/lib.rt:117:1
 returns : tie.Need-returns Inv-loop μ-loop
 returns c = sums-done (c .before .before .before .before .pre) (c .before .loop .inv) (c .loop-test .left)
 

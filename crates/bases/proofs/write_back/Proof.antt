@@ -8,10 +8,6 @@ use native.Mathlib.Omega.{arith}
 use borrow.Author.Needs.{needs}
 use Rattle.bases.proofs.write_back.Statement.{statement}
 use Rattle.bases.proofs.write_back.Tie as tie
-use Rattle.bases.proofs.write_back.Reads as reads
-use Rattle.bases.proofs.write_back.Lts as lts
-use Rattle.bases.proofs.byte_back.Reads as byte-back-reads
-use Rattle.bases.proofs.depth.Reads as depth-reads
 
 abbrev Inv-loop : tie.InvT-loop
 Inv-loop points work x out₀ at p₀ to₀ left₀ out p to left = Back points work (depthOf points work x) x at out₀ left p to out
@@ -19,59 +15,45 @@ Inv-loop points work x out₀ at p₀ to₀ left₀ out p to left = Back points 
 abbrev μ-loop : tie.MeasureT-loop
 μ-loop points work x out₀ at p₀ to₀ left₀ out p to left = left
 
--- src/lib.rt:174:20
 depth-requires : tie.Need-depth-requires Inv-loop μ-loop
 depth-requires c κs = ((c .before .before .pre .0 .point), (c .before .before .pre .0 .room-for))
 
--- src/lib.rt:174:20
 cast-left : tie.Need-cast-left Inv-loop μ-loop
 cast-left c = search needs
 
--- src/lib.rt:175:5
 loop-holds : tie.Need-loop-holds Inv-loop μ-loop
 loop-holds c = back-first (c .depth .ensures) (c .before .before .before .pre .0 .chain)
 
--- src/lib.rt:176:19
 byte-back-requires : tie.Need-byte-back-requires Inv-loop μ-loop
 byte-back-requires c κs = let l = back-link (c .before .loop .inv) (c .loop-test .taken) in (l .0, (c .before .before .before .before .before .pre .0 .room-for), l .1)
 
--- src/lib.rt:176:9
 slice-write-out : tie.Need-slice-write-out Inv-loop μ-loop
 slice-write-out c = omega (arith, back-length (c .before .before .loop .inv), back-place (c .before .before .loop .inv), (c .before .before .before .before .before .before .pre .1), (c .before .loop-test .taken))
 
--- src/lib.rt:177:18
 cast-p : tie.Need-cast-p Inv-loop μ-loop
 cast-p c = let l = back-link (c .before .before .loop .inv) (c .before .loop-test .taken) in omega (arith, l .0, (c .before .before .before .before .before .before .pre .0 .few))
 
--- src/lib.rt:177:13
 mul-p : tie.Need-mul-p Inv-loop μ-loop
 mul-p c = let l = back-link (c .before .before .loop .inv) (c .before .loop-test .taken) in omega (arith, l .0, (c .before .before .before .before .before .before .pre .0 .few))
 
--- src/lib.rt:177:13
 shared-slice-read-p : tie.Need-shared-slice-read-p Inv-loop μ-loop
 shared-slice-read-p c = let l = back-link (c .before .before .before .loop .inv) (c .before .before .loop-test .taken) in omega (arith, l .0, (c .before .before .before .before .before .before .before .pre .0 .room-for))
 
--- src/lib.rt:178:9
 add-to : tie.Need-add-to Inv-loop μ-loop
 add-to c = search needs
 
--- src/lib.rt:179:9
 sub-left : tie.Need-sub-left Inv-loop μ-loop
 sub-left c = search needs
 
--- src/lib.rt:175:5
 loop-less : tie.Need-loop-less Inv-loop μ-loop
 loop-less c = omega (arith, (c .before .before .loop-test .taken))
 
--- src/lib.rt:175:5
 loop-again : tie.Need-loop-again Inv-loop μ-loop
 loop-again c = back-turn (c .before .before .before .loop .inv) (c .before .before .loop-test .taken) (c .before .byte-back .ensures)
 
--- src/lib.rt:167:1
 same-length : tie.Need-same-length Inv-loop μ-loop
 same-length c = back-length (c .before .loop .inv)
 
--- src/lib.rt:167:1
 returns : tie.Need-returns Inv-loop μ-loop
 returns c = unfold backBytes in back-done (c .before .loop .inv) (c .loop-test .left)
 

@@ -6,58 +6,40 @@ use native.Mathlib.Omega.{arith}
 use borrow.Author.Needs.{needs}
 use Rattle.bases.proofs.write_line.Statement.{statement}
 use Rattle.bases.proofs.write_line.Tie as tie
-use Rattle.bases.proofs.write_line.Reads as reads
-use Rattle.bases.proofs.write_line.Lts as lts
-use Rattle.bases.proofs.depth.Reads as depth-reads
-use Rattle.bases.proofs.write_back.Reads as write-back-reads
-use Rattle.bases.proofs.write_path.Reads as write-path-reads
-use Rattle.letters.proofs.byte_of.Reads as byte-of-reads
 
--- src/lib.rt:195:5
 write-path-requires : tie.Need-write-path-requires
 write-path-requires c κs = search needs
 
--- src/lib.rt:196:20
 depth-requires : tie.Need-depth-requires
 depth-requires c κs = search needs
 
--- src/lib.rt:196:20
 cast-mid : tie.Need-cast-mid
 cast-mid c = search needs
 
--- src/lib.rt:196:15
 add-mid : tie.Need-add-mid
 add-mid c = search needs
 
--- src/lib.rt:197:16
 byte-of-requires : tie.Need-byte-of-requires
 byte-of-requires c κs = search needs
 
--- src/lib.rt:197:5
 slice-write-out : tie.Need-slice-write-out
 slice-write-out c = search needs
 
--- src/lib.rt:198:48
 add-write-back : tie.Need-add-write-back
 add-write-back c = search needs
 
--- src/lib.rt:198:9
 write-back-requires : tie.Need-write-back-requires
 write-back-requires c κs = ((c .before .before .before .before .before .before .before .before .before .pre .1), line-back (c .before .before .before .before .before .before .before .before .before .args .out .now) _ (pathBytes (c .before .before .before .before .before .before .before .before .before .args .points) (c .before .before .before .before .before .before .before .before .before .args .work .now) (c .before .before .before .before .before .before .before .before .before .args .v)) _ _ _ _ _ (c .before .before .before .before .before .write-path .ensures) (c .before .before .depth .ensures) (c .before .before .before .before .before .before .before .before .before .pre .3))
 
--- src/lib.rt:199:5
 slice-write-out-2 : tie.Need-slice-write-out-2
 slice-write-out-2 c = line-end (c .before .before .before .before .before .before .before .before .before .before .before .before .args .out .now) _ (pathBytes (c .before .before .before .before .before .before .before .before .before .before .before .before .args .points) (c .before .before .before .before .before .before .before .before .before .before .before .before .args .work .now) (c .before .before .before .before .before .before .before .before .before .before .before .before .args .v)) _ _ _ _ _ (backBytes (c .before .before .before .before .before .before .before .before .before .before .before .before .args .points) (c .before .before .before .before .before .before .before .before .before .before .before .before .args .work .now) (c .before .before .before .before .before .before .before .before .before .before .before .before .args .x)) _ _ (c .before .before .before .before .before .before .before .before .write-path .ensures) (c .before .before .write-back .ensures .0) (c .before .before .before .before .before .depth .ensures) (c .before .before .before .before .before .before .before .before .before .before .before .before .pre .3) (c .before .before .write-back .ensures .1)
 
--- src/lib.rt:200:5
 add-result : tie.Need-add-result
 add-result c = search needs
 
--- src/lib.rt:182:1
 same-length : tie.Need-same-length
 same-length c = line-whole (c .before .before .before .before .before .before .before .before .before .before .before .before .args .out .now) _ (pathBytes (c .before .before .before .before .before .before .before .before .before .before .before .before .args .points) (c .before .before .before .before .before .before .before .before .before .before .before .before .args .work .now) (c .before .before .before .before .before .before .before .before .before .before .before .before .args .v)) _ _ _ _ (backBytes (c .before .before .before .before .before .before .before .before .before .before .before .before .args .points) (c .before .before .before .before .before .before .before .before .before .before .before .before .args .work .now) (c .before .before .before .before .before .before .before .before .before .before .before .before .args .x)) _ _ _ (c .before .before .before .before .before .before .before .before .write-path .ensures) (c .before .before .write-back .ensures .0)
 
--- src/lib.rt:182:1
 returns : tie.Need-returns
 returns c = (line-done _ _ _ _ _ _ _ _ _ _ _ _ (c .before .before .before .before .before .before .before .before .write-path .ensures) (omega (arith, (c .before .before .before .before .before .depth .ensures))) (c .before .before .before .before .byte-of .ensures) (c .before .before .write-back .ensures .0) (c .before .before .write-back .ensures .1), omega (arith, (c .before .before .write-back .ensures .1), (c .before .before .before .before .before .depth .ensures)))
 

@@ -8,10 +8,6 @@ use native.Mathlib.Omega.{arith}
 use borrow.Author.Needs.{needs}
 use Rattle.bases.proofs.write_path.Statement.{statement}
 use Rattle.bases.proofs.write_path.Tie as tie
-use Rattle.bases.proofs.write_path.Reads as reads
-use Rattle.bases.proofs.write_path.Lts as lts
-use Rattle.bases.proofs.byte_to.Reads as byte-to-reads
-use Rattle.bases.proofs.depth.Reads as depth-reads
 
 abbrev Inv-loop : tie.InvT-loop
 Inv-loop points work v out₀ at p₀ left₀ out p left = Up points work (depthOf points work v) v at out₀ left p out
@@ -19,59 +15,45 @@ Inv-loop points work v out₀ at p₀ left₀ out p left = Up points work (depth
 abbrev μ-loop : tie.MeasureT-loop
 μ-loop points work v out₀ at p₀ left₀ out p left = left
 
--- src/lib.rt:158:20
 depth-requires : tie.Need-depth-requires Inv-loop μ-loop
 depth-requires c κs = ((c .before .before .pre .0 .point), (c .before .before .pre .0 .room-for))
 
--- src/lib.rt:158:20
 cast-left : tie.Need-cast-left Inv-loop μ-loop
 cast-left c = search needs
 
--- src/lib.rt:159:5
 loop-holds : tie.Need-loop-holds Inv-loop μ-loop
 loop-holds c = up-first (c .depth .ensures) (c .before .before .before .pre .0 .chain)
 
--- src/lib.rt:160:9
 sub-left : tie.Need-sub-left Inv-loop μ-loop
 sub-left c = search needs
 
--- src/lib.rt:161:26
 byte-to-requires : tie.Need-byte-to-requires Inv-loop μ-loop
 byte-to-requires c κs = let l = up-link (c .before .loop .inv) (c .loop-test .taken) in (l .0, (c .before .before .before .before .before .pre .0 .room-for), l .1)
 
--- src/lib.rt:161:13
 add-out : tie.Need-add-out Inv-loop μ-loop
 add-out c = omega (arith, (c .before .before .loop .inv .low), (c .before .before .before .before .before .before .pre .1), (c .before .before .before .before .before .before .good .1 .0))
 
--- src/lib.rt:161:9
 slice-write-out : tie.Need-slice-write-out Inv-loop μ-loop
 slice-write-out c = omega (arith, up-length (c .before .before .loop .inv), (c .before .before .loop .inv .low), (c .before .before .before .before .before .before .pre .1), (c .before .loop-test .taken))
 
--- src/lib.rt:162:18
 cast-p : tie.Need-cast-p Inv-loop μ-loop
 cast-p c = let l = up-link (c .before .before .loop .inv) (c .before .loop-test .taken) in omega (arith, l .0, (c .before .before .before .before .before .before .pre .0 .few))
 
--- src/lib.rt:162:13
 mul-p : tie.Need-mul-p Inv-loop μ-loop
 mul-p c = let l = up-link (c .before .before .loop .inv) (c .before .loop-test .taken) in omega (arith, l .0, (c .before .before .before .before .before .before .pre .0 .few))
 
--- src/lib.rt:162:13
 shared-slice-read-p : tie.Need-shared-slice-read-p Inv-loop μ-loop
 shared-slice-read-p c = let l = up-link (c .before .before .before .loop .inv) (c .before .before .loop-test .taken) in omega (arith, l .0, (c .before .before .before .before .before .before .before .pre .0 .room-for))
 
--- src/lib.rt:159:5
 loop-less : tie.Need-loop-less Inv-loop μ-loop
 loop-less c = omega (arith, (c .before .before .loop-test .taken))
 
--- src/lib.rt:159:5
 loop-again : tie.Need-loop-again Inv-loop μ-loop
 loop-again c = up-turn (c .before .before .before .loop .inv) (c .before .before .loop-test .taken) (c .before .byte-to .ensures)
 
--- src/lib.rt:153:1
 same-length : tie.Need-same-length Inv-loop μ-loop
 same-length c = up-length (c .before .loop .inv)
 
--- src/lib.rt:153:1
 returns : tie.Need-returns Inv-loop μ-loop
 returns c = unfold pathBytes in up-done (c .before .loop .inv) (c .loop-test .left)
 

@@ -4,12 +4,8 @@ use Rattle.bases.proofs.SumLaws.{Lines, lines-first, lines-length, line
 use Rattle.bases.proofs.PathedLaws.{pathed-sizes}
 use Prim.Native.Nat.{_-_}
 use native.Mathlib.Omega.{arith}
-use borrow.Author.Needs.{needs}
 use Rattle.bases.proofs.write_row.Statement.{statement}
 use Rattle.bases.proofs.write_row.Tie as tie
-use Rattle.bases.proofs.write_row.Reads as reads
-use Rattle.bases.proofs.write_row.Lts as lts
-use Rattle.bases.proofs.write_word.Reads as write-word-reads
 
 abbrev Inv-loop : tie.InvT-loop
 Inv-loop s table work v out₀ at w to₀ y₀ out to y = Lines (s .n) (s .points) table v at out₀ y to out
@@ -17,35 +13,27 @@ Inv-loop s table work v out₀ at w to₀ y₀ out to y = Lines (s .n) (s .point
 abbrev μ-loop : tie.MeasureT-loop
 μ-loop s table work v out₀ at w to₀ y₀ out to y = w - y
 
--- src/lib.rt:222:13
 mul-w : tie.Need-mul-w Inv-loop μ-loop
 mul-w c = omega (arith, (pathed-sizes (c .before .before .before .pre .0)) .letters)
 
--- src/lib.rt:225:5
 loop-holds : tie.Need-loop-holds Inv-loop μ-loop
 loop-holds c = lines-first (c .before .before .before .pre .0)
 
--- src/lib.rt:226:9
 write-word-requires : tie.Need-write-word-requires Inv-loop μ-loop
 write-word-requires c κs = (record { pathed = (c .before .before .before .before .before .before .pre .0); point = (c .before .before .before .before .before .before .pre .1); letter = (c .before .loop-test .taken) }, lines-room (c .before .before .before .before .before .before .pre .0) (c .before .before .loop .inv) (c .before .loop-test .taken) (c .before .before .before .before .before .before .pre .2))
 
--- src/lib.rt:227:9
 add-y : tie.Need-add-y Inv-loop μ-loop
 add-y c = omega (arith, (pathed-sizes (c .before .before .before .before .before .before .before .before .before .pre .0)) .letters, (c .before .before .before .before .loop-test .taken))
 
--- src/lib.rt:225:5
 loop-less : tie.Need-loop-less Inv-loop μ-loop
 loop-less c = omega (arith, (c .before .before .before .before .loop-test .taken))
 
--- src/lib.rt:225:5
 loop-again : tie.Need-loop-again Inv-loop μ-loop
 loop-again c = lines-turn (c .before .before .before .before .before .before .before .before .before .pre .0) (c .before .before .before .before .before .loop .inv) (c .before .before .before .before .loop-test .taken) (c .before .before .write-word .ensures .0) (c .before .before .write-word .ensures .1)
 
--- src/lib.rt:217:1
 same-length : tie.Need-same-length Inv-loop μ-loop
 same-length c = lines-length (c .before .before .before .before .before .pre .0) (c .before .loop .inv)
 
--- src/lib.rt:217:1
 returns : tie.Need-returns Inv-loop μ-loop
 returns c = lines-done (c .before .before .before .before .before .pre .0) (c .before .loop .inv) (c .loop-test .left)
 

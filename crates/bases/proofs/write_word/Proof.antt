@@ -8,37 +8,25 @@ use native.Mathlib.Omega.{arith}
 use borrow.Author.Needs.{needs}
 use Rattle.bases.proofs.write_word.Statement.{statement}
 use Rattle.bases.proofs.write_word.Tie as tie
-use Rattle.bases.proofs.write_word.Reads as reads
-use Rattle.bases.proofs.write_word.Lts as lts
-use Rattle.bases.proofs.is_outside.Reads as is-outside-reads
-use Rattle.bases.proofs.write_line.Reads as write-line-reads
-use Rattle.tables.proofs.cell_at.Reads as cell-at-reads
 
--- src/lib.rt:209:9
 is-outside-requires : tie.Need-is-outside-requires
 is-outside-requires c κs = (c .before .before .before .pre .0)
 
--- src/lib.rt:210:9
 returns : tie.Need-returns
 returns c = word-none (c .before .before .before .before .before .pre .0 .pathed) (c .before .before .before .before .before .pre .0 .point) (c .before .before .before .before .before .pre .0 .letter) _ _ (sym (c .before .is-outside .ensures) ∙ not-true _ (c .if1 .taken))
 
--- src/lib.rt:212:9
 cell-at-requires : tie.Need-cell-at-requires
 cell-at-requires c κs = record { alphabet = (c .before .before .before .before .before .pre .0 .pathed .ready .alphabet); lent = (c .before .before .before .before .before .pre .0 .pathed .ready .lent); point = (c .before .before .before .before .before .pre .0 .point); letter = (c .before .before .before .before .before .pre .0 .letter) }
 
--- src/lib.rt:213:41
 cast-write-line : tie.Need-cast-write-line
 cast-write-line c = omega (arith, (pathed-sizes (c .before .before .before .before .before .before .pre .0 .pathed)) .points, (c .before .before .before .before .before .before .pre .0 .point))
 
--- src/lib.rt:213:5
 write-line-requires : tie.Need-write-line-requires
 write-line-requires c κs = let e = sym (c .before .before .before .is-outside .ensures) ∙ not-false _ (c .before .before .if1 .left) in let f = far-in (c .before .before .before .before .before .before .before .pre .0 .pathed) _ _ (c .before .before .before .before .before .before .before .pre .0 .point) (c .before .before .before .before .before .before .before .pre .0 .letter) (c .before .cell-at .ensures) e in (linked (c .before .before .before .before .before .before .before .pre .0 .pathed) _ (c .before .before .before .before .before .before .before .pre .0 .point), linked (c .before .before .before .before .before .before .before .pre .0 .pathed) _ f, omega (arith, (pathed-sizes (c .before .before .before .before .before .before .before .pre .0 .pathed)) .letters, (c .before .before .before .before .before .before .before .pre .0 .letter)), omega (arith, (c .before .before .before .before .before .before .before .pre .1), line-length (c .before .before .before .before .before .before .before .pre .0 .pathed) _ _ (c .before .before .before .before .before .before .before .pre .0 .point) (c .before .before .before .before .before .before .before .pre .0 .letter) (c .before .cell-at .ensures) e))
 
--- src/lib.rt:204:1
 same-length : tie.Need-same-length
 same-length c = search needs
 
--- src/lib.rt:204:1
 returns-2 : tie.Need-returns-2
 returns-2 c = word-line (c .before .before .before .before .before .before .before .before .before .before .pre .0 .pathed) (c .before .before .before .before .before .before .before .before .before .before .pre .0 .point) (c .before .before .before .before .before .before .before .before .before .before .pre .0 .letter) _ _ (c .before .before .before .before .cell-at .ensures) (sym (c .before .before .before .before .before .before .is-outside .ensures) ∙ not-false _ (c .before .before .before .before .before .if1 .left)) (c .before .before .write-line .ensures .0) (c .before .before .write-line .ensures .1)
 

@@ -4,12 +4,8 @@ use Rattle.bases.proofs.SumLaws.{Rows, rows-first, rows-length, rows-ro
 use Rattle.bases.proofs.PathedLaws.{pathed-sizes}
 use Prim.Native.Nat.{_-_}
 use native.Mathlib.Omega.{arith}
-use borrow.Author.Needs.{needs}
 use Rattle.bases.proofs.write_words.Statement.{statement}
 use Rattle.bases.proofs.write_words.Tie as tie
-use Rattle.bases.proofs.write_words.Reads as reads
-use Rattle.bases.proofs.write_words.Lts as lts
-use Rattle.bases.proofs.write_row.Reads as write-row-reads
 
 abbrev Inv-loop : tie.InvT-loop
 Inv-loop s table work out₀ points at₀ v₀ out at v = Rows (s .n) (s .points) table out₀ v at out
@@ -17,31 +13,24 @@ Inv-loop s table work out₀ points at₀ v₀ out at v = Rows (s .n) (s .points
 abbrev μ-loop : tie.MeasureT-loop
 μ-loop s table work out₀ points at₀ v₀ out at v = points - v
 
--- src/lib.rt:240:5
 loop-holds : tie.Need-loop-holds Inv-loop μ-loop
 loop-holds c = rows-first (c .before .before .before .pre .0)
 
--- src/lib.rt:241:9
 write-row-requires : tie.Need-write-row-requires Inv-loop μ-loop
 write-row-requires c κs = ((c .before .before .before .before .before .before .pre .0), (c .before .loop-test .taken), rows-room (c .before .before .before .before .before .before .pre .0) (c .before .before .loop .inv) (c .before .loop-test .taken) (c .before .before .before .before .before .before .pre .1))
 
--- src/lib.rt:242:9
 add-v : tie.Need-add-v Inv-loop μ-loop
 add-v c = omega (arith, (pathed-sizes (c .before .before .before .before .before .before .before .before .before .pre .0)) .points, (c .before .before .before .before .loop-test .taken))
 
--- src/lib.rt:240:5
 loop-less : tie.Need-loop-less Inv-loop μ-loop
 loop-less c = omega (arith, (c .before .before .before .before .loop-test .taken))
 
--- src/lib.rt:240:5
 loop-again : tie.Need-loop-again Inv-loop μ-loop
 loop-again c = rows-turn (c .before .before .before .before .before .before .before .before .before .pre .0) (c .before .before .before .before .before .loop .inv) (c .before .before .before .before .loop-test .taken) (c .before .before .write-row .ensures .0) (c .before .before .write-row .ensures .1)
 
--- src/lib.rt:233:1
 same-length : tie.Need-same-length Inv-loop μ-loop
 same-length c = rows-length (c .before .before .before .before .before .pre .0) (c .before .loop .inv)
 
--- src/lib.rt:233:1
 returns : tie.Need-returns Inv-loop μ-loop
 returns c = rows-done (c .before .before .before .before .before .pre .0) (c .before .loop .inv) (c .loop-test .left)
 

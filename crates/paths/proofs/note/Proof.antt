@@ -7,50 +7,37 @@ use native.Mathlib.Omega.{arith}
 use borrow.Author.Needs.{needs}
 use Rattle.paths.proofs.note.Statement.{statement}
 use Rattle.paths.proofs.note.Tie as tie
-use Rattle.paths.proofs.note.Reads as reads
-use Rattle.paths.proofs.note.Lts as lts
 
--- src/lib.rt:18:5
 mul-work : tie.Need-mul-work
 mul-work c = search needs
 
--- src/lib.rt:18:5
 slice-write-work : tie.Need-slice-write-work
 slice-write-work c = search needs
 
--- src/lib.rt:19:10
 add-work : tie.Need-add-work
 add-work c = search needs
 
--- src/lib.rt:19:5
 mul-work-2 : tie.Need-mul-work-2
 mul-work-2 c = search needs
 
--- src/lib.rt:19:5
 slice-write-work-2 : tie.Need-slice-write-work-2
 slice-write-work-2 c = simp length-set (omega (arith, (c .pre .0), (c .pre .1)))
 
--- src/lib.rt:20:10
 mul-work-3 : tie.Need-mul-work-3
 mul-work-3 c = search needs
 
--- src/lib.rt:20:10
 add-work-2 : tie.Need-add-work-2
 add-work-2 c = search needs
 
--- src/lib.rt:20:5
 mul-work-4 : tie.Need-mul-work-4
 mul-work-4 c = search needs
 
--- src/lib.rt:20:5
 slice-write-work-3 : tie.Need-slice-write-work-3
 slice-write-work-3 c = simp length-set (omega (arith, (c .pre .0), (c .pre .1)))
 
--- src/lib.rt:14:1
 same-length : tie.Need-same-length
 same-length c = search needs
 
--- src/lib.rt:14:1
 returns : tie.Need-returns
 returns c = unfold noted in refl
 

@@ -8,65 +8,46 @@ use native.Mathlib.Omega.{arith}
 use borrow.Author.Needs.{needs}
 use Rattle.paths.proofs.visit.Statement.{statement}
 use Rattle.paths.proofs.visit.Tie as tie
-use Rattle.paths.proofs.visit.Reads as reads
-use Rattle.paths.proofs.visit.Lts as lts
-use Rattle.paths.proofs.is_new.Reads as is-new-reads
-use Rattle.paths.proofs.note.Reads as note-reads
-use Rattle.tables.proofs.cell_at.Reads as cell-at-reads
 
--- src/lib.rt:39:9
 cell-at-requires : tie.Need-cell-at-requires
 cell-at-requires c κs = (c .before .before .pre .inside)
 
--- src/lib.rt:40:9
 is-new-requires : tie.Need-is-new-requires
 is-new-requires c κs = search needs
 
--- src/lib.rt:41:9
 returns : tie.Need-returns
 returns c = let e = not-true _ (c .if1 .taken) in (old-met _ (c .before .before .before .before .before .args .s .points) (c .before .before .before .before .before .args .work .now) _ _ _ (c .before .before .cell-at .ensures) (c .before .is-new .ensures) e, old-noted _ _ _ _ _ _ (c .before .before .cell-at .ensures) (c .before .is-new .ensures) e)
 
--- src/lib.rt:44:22
 mul-depth : tie.Need-mul-depth
 mul-depth c = search needs
 
--- src/lib.rt:44:22
 add-depth : tie.Need-add-depth
 add-depth c = search needs
 
--- src/lib.rt:44:17
 mul-depth-2 : tie.Need-mul-depth-2
 mul-depth-2 c = search needs
 
--- src/lib.rt:44:17
 slice-read-depth : tie.Need-slice-read-depth
 slice-read-depth c = search needs
 
--- src/lib.rt:44:17
 add-depth-2 : tie.Need-add-depth-2
 add-depth-2 c = let s = inside-sizes (c .before .before .before .before .before .before .pre .inside) in omega (arith, s .points, (c .before .before .before .before .before .before .pre .shallow))
 
--- src/lib.rt:45:24
 cast-note : tie.Need-cast-note
 cast-note c = search needs
 
--- src/lib.rt:45:36
 cast-note-2 : tie.Need-cast-note-2
 cast-note-2 c = let s = inside-sizes (c .before .before .before .before .before .before .before .pre .inside) in omega (arith, s .points, (c .before .before .before .before .before .before .before .pre .inside .point))
 
--- src/lib.rt:45:46
 cast-note-3 : tie.Need-cast-note-3
 cast-note-3 c = let s = inside-sizes (c .before .before .before .before .before .before .before .pre .inside) in omega (arith, s .letters, (c .before .before .before .before .before .before .before .pre .inside .letter))
 
--- src/lib.rt:45:5
 note-requires : tie.Need-note-requires
 note-requires c κs = let b = new-beyond _ _ (sym (c .before .before .before .is-new .ensures) ∙ not-false _ (c .before .before .if1 .left)) in (omega (arith, (c .before .before .before .before .cell-at .ensures), (c .before .before .before .before .before .before .before .pre .within) (λ e. b .0 ((c .before .before .before .before .cell-at .ensures) ∙ e))), (c .before .before .before .before .before .before .before .pre .room-for))
 
--- src/lib.rt:34:1
 same-length : tie.Need-same-length
 same-length c = search needs
 
--- src/lib.rt:34:1
 returns-2 : tie.Need-returns-2
 returns-2 c = let e = not-false _ (c .before .before .before .before .before .if1 .left) in (new-met _ (c .before .before .before .before .before .before .before .before .before .before .args .s .points) (c .before .before .before .before .before .before .before .before .before .before .args .work .now) _ _ _ (c .before .before .before .before .before .before .before .cell-at .ensures) (c .before .before .before .before .before .before .is-new .ensures) e, (c .before .before .note .ensures) ∙ new-noted _ _ _ _ _ _ (c .before .before .before .before .before .before .before .cell-at .ensures) (c .before .before .before .before .before .before .is-new .ensures) e)
 
