@@ -1,6 +1,7 @@
 //! Folds lists of many shapes by the library and by plain Rust, in one run on warm buffers, and prints a table.
 //! Both must leave the same figures and the same cells. Built with --cfg plain it measures plain Rust alone.
 
+use std::cell::RefCell;
 use std::time::{Duration, Instant};
 
 #[cfg(not(plain))]
@@ -23,7 +24,7 @@ const SIZES: [usize; 3] = [10_000, 100_000, 1_000_000];
 const ALPHABETS: [usize; 3] = [2, 3, 26];
 const ABSENT: u32 = u32::MAX;
 
-/// The buffers of one engine.
+/// Buffers to lend.
 struct Lent {
     table: Vec<u32>,
     work: Vec<u32>,
@@ -71,11 +72,14 @@ fn row(shape: &Shape, n: usize, size: usize) -> Row {
     let (reply, other_reply) = (folded(fold, &mut ours), folded(plain::fold, &mut other));
     assert!(reply.number == 0 && reply == other_reply, "{}: {reply:?}, {other_reply:?}", shape.name);
     assert!(ours.table == other.table && ours.work == other.work, "{}: other cells", shape.name);
+    drop(other);
+    // one pair of buffers for both engines: where a buffer lies must not tell them apart
+    let lent = RefCell::new(ours);
     let [library, plain] = least([
-        &mut || _ = folded(fold, &mut ours),
-        &mut || _ = folded(plain::fold, &mut other),
+        &mut || _ = folded(fold, &mut lent.borrow_mut()),
+        &mut || _ = folded(plain::fold, &mut lent.borrow_mut()),
     ]);
-    let [fill] = least([&mut || std::hint::black_box(&mut other.table).fill(ABSENT)]);
+    let [fill] = least([&mut || std::hint::black_box(&mut lent.borrow_mut().table).fill(ABSENT)]);
     let each = |time: Duration| time.as_nanos() as f64 / letters as f64;
     Row {
         letters,
