@@ -1,22 +1,23 @@
 -- From what the checker computes of a case to what is claimed of it (`specs/Claims`).
 --   spans ws kss bs == each word of bs is the reduction of the product of ws that stands beside it in kss
 --   outcome e       == the refusal of the list, or its figures
---   ready e         == the tests of a list that is not refused: its table is canonical and accepts the listed words, its basis words are
---                      products of listed words, and it has no fewer start points than points, and no fewer words than its rank
+--   tests e         == the table is canonical and accepts the listed words, its basis words are products of them, and it has no more
+--                      points than the start graph, and no greater rank than there are words
+--   ready e         == the list is refused, or passes the tests
 --   all-documented   : cases that compute to what is expected, and pass, are as documented
 -- Assumes nothing.
 use mathlib.Core.Path.{_≡_, refl, sym, _∙_, ap, subst}
-use mathlib.Core.Bool.{Bool, true, false, cond, _&&_, true≢false}
+use mathlib.Core.Bool.{Bool, true, false, _&&_, true≢false}
 use mathlib.Core.Option.{Option, none, some}
 use mathlib.Core.List.{List, [], _∷_, map}
-use Prim.Native.Nat.{ℕ, zero, suc, _+_, _-_, _≤_, _<_}
+use Prim.Native.Nat.{ℕ, zero, suc, _≤_, _<_}
 use Prim.Native.String.{String}
 use native.Mathlib.Omega.{arith}
 use lib.Dec.{eqb, ltb, leb}
 use lib.IntN.{ℤ, pos, negsuc}
 use lib.ListN.{length, getD}
 use borrow.Author.Tests.{eqb-true, ltb-true, leb-true}
-use Rattle.theory.specs.Words.{reduced, _≈_, product, Names, AllNames, Member}
+use Rattle.theory.specs.Words.{reduced, product, Names, AllNames, Member}
 use Rattle.theory.specs.Letters.{usual}
 use Rattle.theory.specs.Texts.{word}
 use Rattle.theory.specs.Refusals.{Refusal, textRefusal}
@@ -24,7 +25,7 @@ use Rattle.theory.specs.Tables.{Accepts, isAccepted}
 use Rattle.theory.specs.Canonical.{Canonical, faultyCell}
 use Rattle.theory.specs.Graphs.{Graph, startGraph, nonEmptyWords}
 use Rattle.theory.specs.Folds.{CompleteFolding}
-use Rattle.theory.specs.Basis.{all, basisOf, expressionOf, rankOf}
+use Rattle.theory.specs.Basis.{all, expressionOf, rankOf}
 use Rattle.theory.specs.Subgroups.{TableOf, SameGraph}
 use Rattle.theory.proofs.WordLaws.{byTest}
 use Rattle.theory.proofs.RefusalLaws.{and-true, refusal-first, refusal-none}
@@ -45,7 +46,6 @@ use Rattle.theory.proofs.Main.{
 }
 use Rattle.cases.specs.Printed.{answerOf, mergesOf, closesOf}
 use Rattle.cases.specs.Claims.{
-  Figures,
   Outcome,
   refused,
   accepted,
@@ -116,7 +116,8 @@ spans ws (ks ∷ kss) (b ∷ bs) =
     allNamed (length ws) ks && (sameWord (reduced (product ws ks)) (reduced b) && spans ws kss bs)
 
 -- each spanned word is a member
-spans-member : (ws : List (List ℕ)) (kss : List (List ℤ)) (bs : List (List ℕ)) → spans ws kss bs ≡ true → (k : ℕ) → k < length bs → Member ws (getD bs k [])
+spans-member : (ws : List (List ℕ)) (kss : List (List ℤ)) (bs : List (List ℕ)) → spans ws kss bs ≡ true
+    → (k : ℕ) → k < length bs → Member ws (getD bs k [])
 unfolding spans
 spans-member ws kss [] e k h = absurd (omega arith)
 spans-member ws [] (b ∷ bs) e k h = absurd (true≢false (sym e))
@@ -128,7 +129,8 @@ spans-member ws (ks ∷ kss) (b ∷ bs) e k h = at k h (spans-member ws kss bs (
     d : (sameWord (reduced (product ws ks)) (reduced b) ≡ true) × (spans ws kss bs ≡ true)
     d = and-true (sameWord (reduced (product ws ks)) (reduced b)) (spans ws kss bs) (c .1)
 
-    at : (k : ℕ) → k < suc (length bs) → ((j : ℕ) → j < length bs → Member ws (getD bs j [])) → Member ws (getD (b ∷ bs) k [])
+    at : (k : ℕ) → k < suc (length bs) → ((j : ℕ) → j < length bs → Member ws (getD bs j []))
+        → Member ws (getD (b ∷ bs) k [])
     at zero h f =
         record {
           numbers = ks;
@@ -137,7 +139,8 @@ spans-member ws (ks ∷ kss) (b ∷ bs) e k h = at k h (spans-member ws kss bs (
         }
     at (suc k) h f = f k (omega arith)
 
-all-at : (f : List ℕ → Bool) (ws : List (List ℕ)) → all f ws ≡ true → (k : ℕ) → k < length ws → f (getD ws k []) ≡ true
+all-at : (f : List ℕ → Bool) (ws : List (List ℕ)) → all f ws ≡ true
+    → (k : ℕ) → k < length ws → f (getD ws k []) ≡ true
 unfolding all
 all-at f [] e k h = absurd (omega arith)
 all-at f (w ∷ ws) e zero h = and-true (f w) (all f ws) e .0
@@ -153,6 +156,7 @@ unfoldable pub outcome : Case → Outcome
 outcome e = outcomeFor e (textRefusal (e .n) true (e .text))
 
 module _ (e : Case) where
+  -- the rank of its table
   abbrev rank : ℕ
   rank = rankOf (cells e) (e .points) (usual (e .n))
 
@@ -188,7 +192,8 @@ module _ (e : Case) where
         alphabet = ltb-true 0 (e .n) (a .0);
         based = ltb-true 0 (e .points) (b .0);
         canonical = table-none-canonical (e .n) (e .points) (e .table) (ltb-true 0 (e .n) (a .0)) (nothing-none _ (c .0));
-        accepted-words = λ k l. isAccepted-sound (cells e) (getD (listed e) k []) (all-at (isAccepted (cells e)) (listed e) (d .0) k l);
+        accepted-words =
+            λ k l. isAccepted-sound (cells e) (getD (listed e) k []) (all-at (isAccepted (cells e)) (listed e) (d .0) k l);
         members = spans-member (listed e) (e .generated) (basisIn e) (g .0);
         merging = leb-true _ _ (h .0);
         closing = leb-true _ _ (h .1);
@@ -214,7 +219,8 @@ module _ (e : Case) where
         byTest (isAccepted (cells e) q) (λ t. rw t (inside (member-iff-reads-back table q .0 t)))
         (λ t. rw t (outside (λ m. true≢false (sym (member-iff-reads-back table q .1 m) ∙ t))))
       where
-        inside : Member (listed e) q → Answered (listed e) (basisIn e) q (some (expressionOf (cells e) (e .points) (usual (e .n)) q))
+        inside : Member (listed e) q
+            → Answered (listed e) (basisIn e) q (some (expressionOf (cells e) (e .points) (usual (e .n)) q))
         inside m =
             let x = expression-reduces table q m in
             (m, record { names = x .1; tidy = x .0; reduces = x .2; only = λ js a t r. express-unique table js q a t r })
@@ -222,7 +228,8 @@ module _ (e : Case) where
         outside : (Member (listed e) q → ⊥) → Answered (listed e) (basisIn e) q none
         outside o = (o, outside-has-none table q o)
 
-    all-answered : (qs : List String) → AllAnswered (listed e) (basisIn e) qs (map (λ q. answerOf (cells e) (e .points) (usual (e .n)) (word q)) qs)
+    all-answered : (qs : List String)
+        → AllAnswered (listed e) (basisIn e) qs (map (λ q. answerOf (cells e) (e .points) (usual (e .n)) (word q)) qs)
     all-answered [] = refl
     all-answered (q ∷ qs) = (answered (word q), all-answered qs)
 
@@ -232,11 +239,13 @@ module _ (e : Case) where
         let c = fold-counts table f in
         (omega (arith, c .0, P .merging), omega (arith, c .1, P .closing), folds-to-the-table table f)
 
-    a-folding : (h : Graph) × CompleteFolding (startGraph (listed e)) h (mergesOf (listed e) (e .points)) (closesOf (listed e) rank)
+    a-folding : (h : Graph)
+        × CompleteFolding (startGraph (listed e)) h (mergesOf (listed e) (e .points)) (closesOf (listed e) rank)
     a-folding =
         let x = folding-exists (startGraph (listed e)) in
         let c = every-folding (x .0) (x .1) (x .2) (x .3) in
-        (x .0, subst (λ m. CompleteFolding (startGraph (listed e)) (x .0) m (closesOf (listed e) rank)) (c .0) (subst (λ k. CompleteFolding (startGraph (listed e)) (x .0) (x .1) k) (c .1) (x .3)))
+        let f = subst (λ k. CompleteFolding (startGraph (listed e)) (x .0) (x .1) k) (c .1) (x .3) in
+        (x .0, subst (λ m. CompleteFolding (startGraph (listed e)) (x .0) m (closesOf (listed e) rank)) (c .0) f)
 
     shown : textRefusal (e .n) true (e .text) ≡ none → Shown e (figuresOf e)
     unfolding figuresOf
@@ -259,7 +268,8 @@ module _ (e : Case) where
   ready = readyFor (textRefusal (e .n) true (e .text))
 
   -- what is computed of a list is claimed of it
-  claimed : (r : Option Refusal) → textRefusal (e .n) true (e .text) ≡ r → readyFor r ≡ true → Claimed e (outcomeFor e r)
+  claimed : (r : Option Refusal) → textRefusal (e .n) true (e .text) ≡ r → readyFor r ≡ true
+      → Claimed e (outcomeFor e r)
   claimed none t p = shown (passed p) t
   claimed (some r) t p = refusal-first (e .n) true (e .text) r t
 
@@ -267,7 +277,8 @@ module _ (e : Case) where
   unfolding outcome ready
   documented x p = subst (Claimed e) x (claimed (textRefusal (e .n) true (e .text)) refl p)
 
-pub all-documented : (es : List Case) → map outcome es ≡ map (λ e. e .expected) es → all ready es ≡ true → Every AsDocumented es
+pub all-documented : (es : List Case) → map outcome es ≡ map (λ e. e .expected) es → all ready es ≡ true
+    → Every AsDocumented es
 unfolding all
 all-documented [] x p = tt
 all-documented (e ∷ es) x p =

@@ -1,10 +1,8 @@
--- The examples hold: document 01's small graphs, one statement over one list. The checker computes figures, refusals and tests of the
--- whole list at once; tables, members, expressions and foldings follow by `CaseLaws`.
+-- The examples hold: document 01's small graphs, one statement over one list. The checker computes the figures, refusals and tests
+-- of the whole list at once; tables, members, expressions and foldings follow by `CaseLaws`.
 -- Assumes nothing.
 use mathlib.Core.Path.{_≡_, refl}
-use mathlib.Core.Bool.{true}
 use mathlib.Core.Option.{none}
-use mathlib.Core.List.{map}
 use Rattle.theory.specs.Words.{inv, put, reducedBy, inverseBy, named, product}
 use Rattle.theory.specs.Letters.{letterBytes, placeIn, byteOf, letterOf, isLetter, upTo, usual, onFirst, wordsOf}
 use Rattle.theory.specs.Texts.{bytesFrom, word}

@@ -1,6 +1,7 @@
--- Document 01's small graphs: one list of cases. `proofs/ExamplesHold` proves one statement over it, `Every AsDocumented examples`.
---   examples == the printed run, the cases marked P, and more lists that are refused: an alphabet of 0 and of 27, 3 and 4 in one list
--- The first list's words are those of 004's introduction: `firstList` has the product that is aa, and the one printed there.
+-- Document 01's small graphs: one list of cases. `proofs/ExamplesHold` proves one statement over it,
+-- `Every AsDocumented examples` (`Claims`).
+--   examples == the printed run, the cases marked P, and four more lists that are refused: by 1, by 3, and by 4 before 3
+-- The first list's words are those of 004's introduction: `firstList` has the product that reduces to aa, then the one printed there.
 -- The table of a case is given; that it is the list's is part of what is shown. Assumes nothing.
 use mathlib.Core.Bool.{true, false}
 use mathlib.Core.Option.{none, some}
