@@ -1,8 +1,8 @@
 -- From what the checker computes of a case to what is claimed of it (`specs/Claims`).
 --   spans ws kss bs == each word of bs is the reduction of the product of ws that stands beside it in kss
 --   outcome e       == the refusal of the list, or its figures
---   tests e         == the table is canonical and accepts the listed words, its basis words are products of them, and it has no more
---                      points than the start graph, and no greater rank than there are words
+--   tests e         == the table is canonical and accepts the listed words, its basis words are products of them, no query is refused,
+--                      and there are no more points than the start graph has, and no greater rank than there are words
 --   ready e         == the list is refused, or passes the tests
 --   all-documented   : cases that compute to what is expected, and pass, are as documented
 -- Assumes nothing.
@@ -19,7 +19,7 @@ use lib.ListN.{length, getD}
 use borrow.Author.Tests.{eqb-true, ltb-true, leb-true}
 use Rattle.theory.specs.Words.{reduced, product, Names, AllNames, Member}
 use Rattle.theory.specs.Letters.{usual}
-use Rattle.theory.specs.Texts.{word}
+use Rattle.theory.specs.Texts.{bytes, word}
 use Rattle.theory.specs.Refusals.{Refusal, textRefusal}
 use Rattle.theory.specs.Tables.{Accepts, isAccepted}
 use Rattle.theory.specs.Canonical.{Canonical, faultyCell}
@@ -54,6 +54,7 @@ use Rattle.cases.specs.Claims.{
   cells,
   basisIn,
   figuresOf,
+  AllFine,
   Answered,
   AllAnswered,
   Shown,
@@ -64,11 +65,11 @@ use Rattle.cases.specs.Claims.{
 
 -- ── Tests ──
 
-unfoldable pub isNothing : Option ℕ → Bool
+unfoldable pub isNothing : {A : Type 0} → Option A → Bool
 isNothing none = true
 isNothing (some p) = false
 
-nothing-none : (o : Option ℕ) → isNothing o ≡ true → o ≡ none
+nothing-none : {A : Type 0} (o : Option A) → isNothing o ≡ true → o ≡ none
 unfolding isNothing
 nothing-none none e = refl
 nothing-none (some p) e = absurd (true≢false (sym e))
@@ -146,6 +147,18 @@ all-at f [] e k h = absurd (omega arith)
 all-at f (w ∷ ws) e zero h = and-true (f w) (all f ws) e .0
 all-at f (w ∷ ws) e (suc k) h = all-at f ws (and-true (f w) (all f ws) e .1) k (omega arith)
 
+-- no query is refused
+unfoldable pub noneRefused : ℕ → List String → Bool
+noneRefused n [] = true
+noneRefused n (q ∷ qs) = isNothing (textRefusal n false (bytes q)) && noneRefused n qs
+
+noneRefused-sound : (n : ℕ) (qs : List String) → noneRefused n qs ≡ true → AllFine n qs
+unfolding noneRefused
+noneRefused-sound n [] e = tt
+noneRefused-sound n (q ∷ qs) e =
+    let a = and-true (isNothing (textRefusal n false (bytes q))) (noneRefused n qs) e in
+    (refusal-none n false (bytes q) (nothing-none _ (a .0)), noneRefused-sound n qs (a .1))
+
 -- ── Cases ──
 
 abbrev pub outcomeFor : Case → Option Refusal → Outcome
@@ -167,8 +180,9 @@ module _ (e : Case) where
       && (isNothing (faultyCell (e .points) (usual (e .n)) (cells e))
       && (all (isAccepted (cells e)) (listed e)
       && (spans (listed e) (e .generated) (basisIn e)
+      && (noneRefused (e .n) (e .queries)
       && (leb (e .points) (length (startGraph (listed e) .points))
-      && leb rank (nonEmptyWords (listed e)))))))
+      && leb rank (nonEmptyWords (listed e))))))))
 
   record Passed : Type 0 where
     alphabet : 0 < e .n
@@ -176,6 +190,7 @@ module _ (e : Case) where
     canonical : Canonical (e .points) (usual (e .n)) (cells e)
     accepted-words : (k : ℕ) → k < length (listed e) → Accepts (cells e) (getD (listed e) k [])
     members : (k : ℕ) → k < length (basisIn e) → Member (listed e) (getD (basisIn e) k [])
+    asked : AllFine (e .n) (e .queries)
     merging : e .points ≤ length (startGraph (listed e) .points)
     closing : rank ≤ nonEmptyWords (listed e)
 
@@ -188,6 +203,7 @@ module _ (e : Case) where
       let d = and-true _ _ (c .1) in
       let g = and-true _ _ (d .1) in
       let h = and-true _ _ (g .1) in
+      let l = and-true _ _ (h .1) in
       record {
         alphabet = ltb-true 0 (e .n) (a .0);
         based = ltb-true 0 (e .points) (b .0);
@@ -195,8 +211,9 @@ module _ (e : Case) where
         accepted-words =
             λ k l. isAccepted-sound (cells e) (getD (listed e) k []) (all-at (isAccepted (cells e)) (listed e) (d .0) k l);
         members = spans-member (listed e) (e .generated) (basisIn e) (g .0);
-        merging = leb-true _ _ (h .0);
-        closing = leb-true _ _ (h .1);
+        asked = noneRefused-sound (e .n) (e .queries) (h .0);
+        merging = leb-true _ _ (l .0);
+        closing = leb-true _ _ (l .1);
       }
 
   module _ (P : Passed) where
@@ -252,6 +269,7 @@ module _ (e : Case) where
     shown r =
         record {
           fine = refusal-none (e .n) true (e .text) r;
+          asked = P .asked;
           table = table;
           figures = refl;
           generates = basis-generates-the-subgroup table;

@@ -16,7 +16,7 @@ use Rattle.decimals.specs.Decimal.{digitBytes, decimalOf}
 use Rattle.cases.specs.Printed.{line, basisLines, queryLines, printed}
 use Rattle.cases.specs.Claims.{figuresOf, AsDocumented, Every}
 use Rattle.cases.specs.Cases.{examples, unreducedQuery}
-use Rattle.cases.proofs.CaseLaws.{isNothing, sameWord, isNamed, allNamed, spans, outcome, tests, ready, all-documented}
+use Rattle.cases.proofs.CaseLaws.{isNothing, sameWord, isNamed, allNamed, spans, noneRefused, outcome, tests, ready, all-documented}
 
 -- a word that is not reduced may fail to read although it stands for a member: aBbb in the subgroup of ab
 pub not-the-other-way : endOf (cell 2 2 (unreducedQuery .table)) 0 (word "aBbb") ≡ none
@@ -24,5 +24,5 @@ unfolding endOf cell bytesFrom letterOf placeIn letterBytes
 not-the-other-way = refl
 
 pub examples-hold : Every AsDocumented examples
-unfolding inv put reducedBy inverseBy named product letterBytes placeIn byteOf letterOf isLetter upTo usual onFirst wordsOf bytesFrom isAlphabet byteRefusal bytesRefusal isUnended textRefusal cell endOf isAccepted rowOf rowsBefore earlier greatestMet present isIn breaksCell breaksRow isFaulty least firstPlace faultyCell edgeOf circle circles startPoints startGraph nonEmptyWords spotsOf scan firstMet pathFrom pathOf isPathStep isPathEdge those edgesOf outsideEdges basisWord basisOf numberIn crossing crossings expressionOf rankOf all indexOf isFull leadsBack isNormal groups numberBytes numbersBytes cellNumber tableFile digitBytes decimalOf line basisLines queryLines printed figuresOf isNothing sameWord isNamed allNamed spans outcome tests ready
+unfolding inv put reducedBy inverseBy named product letterBytes placeIn byteOf letterOf isLetter upTo usual onFirst wordsOf bytesFrom isAlphabet byteRefusal bytesRefusal isUnended textRefusal cell endOf isAccepted rowOf rowsBefore earlier greatestMet present isIn breaksCell breaksRow isFaulty least firstPlace faultyCell edgeOf circle circles startPoints startGraph nonEmptyWords spotsOf scan firstMet pathFrom pathOf isPathStep isPathEdge those edgesOf outsideEdges basisWord basisOf numberIn crossing crossings expressionOf rankOf all indexOf isFull leadsBack isNormal groups numberBytes numbersBytes cellNumber tableFile digitBytes decimalOf line basisLines queryLines printed figuresOf isNothing sameWord isNamed allNamed spans noneRefused outcome tests ready
 examples-hold = all-documented examples refl refl

@@ -1,12 +1,13 @@
 -- What is claimed of a case: an alphabet, a list and what document 01 says of it. The cases themselves are in `Cases`.
 --   Case           == an alphabet, a list text, its table, queries, products of listed words, and what is expected
 --   figuresOf e    == what document 01's definitions compute for the list, its table and its queries
+--   Fine n lines s <-> no cause of refusal applies to a list or query
 --   Answered       <-> a member with its one expression in the basis, or a word outside that has none
---   Shown e f      <-> the list is not refused, the table is its own, and everything that f says of it holds
+--   Shown e f      <-> list and queries are not refused, the table is the list's, and everything that f says of it holds
 --   AsDocumented e <-> what is expected holds: a refusal is the first cause, and what is shown of a list is `Shown`
 -- Assumes nothing.
 use mathlib.Core.Path.{_≡_}
-use mathlib.Core.Bool.{Bool, true}
+use mathlib.Core.Bool.{Bool, true, false}
 use mathlib.Core.Option.{Option, none, some}
 use mathlib.Core.List.{List, [], _∷_, map}
 use Prim.Native.Nat.{ℕ}
@@ -88,6 +89,13 @@ figuresOf e =
       lines = printed (e .n) N (e .table) (e .text) (map bytes (e .queries));
     }
 
+abbrev pub Fine : ℕ → Bool → List ℕ → Type 0
+Fine n lines text = (k p : ℕ) → TextCause n lines text k p → ⊥
+
+abbrev pub AllFine : ℕ → List String → Type 0
+AllFine n [] = Unit {0}
+AllFine n (q ∷ qs) = Fine n false (bytes q) × AllFine n qs
+
 -- ks is the one product of words of the basis b, none beside its own inverse, that reduces to q
 pub record Expressed (b : List (List ℕ)) (q : List ℕ) (ks : List ℤ) : Type 0 where
   pub names : AllNames (length b) ks
@@ -106,8 +114,9 @@ AllAnswered ws b (q ∷ qs) [] = ⊥
 AllAnswered ws b (q ∷ qs) (o ∷ os) = Answered ws b (word q) o × AllAnswered ws b qs os
 
 pub record Shown (e : Case) (f : Figures) : Type 0 where
-  -- no cause of refusal applies
-  pub fine : (k p : ℕ) → TextCause (e .n) true (e .text) k p → ⊥
+  -- no cause of refusal applies to the list, nor to a query
+  pub fine : Fine (e .n) true (e .text)
+  pub asked : AllFine (e .n) (e .queries)
   -- the table is canonical and accepts exactly the members of the list's subgroup
   pub table : TableOf (e .n) (e .points) (e .table) (listed e)
   -- its figures, by definition
