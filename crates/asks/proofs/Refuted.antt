@@ -17,8 +17,8 @@ use Rattle.theory.specs.Words.{reducedBy, named, product, Member}
 use Rattle.theory.specs.Letters.{letterBytes, placeIn, letterOf, isLetter, wordsOf, lettersIn}
 use Rattle.theory.specs.Refusals.{isAlphabet, byteRefusal, bytesRefusal, isUnended}
 use Rattle.theory.specs.Tables.{cell}
-use Rattle.theory.specs.Examples.{bytesFrom}
-use Rattle.theory.proofs.ExamplesHold.{examples-hold}
+use Rattle.theory.specs.Texts.{bytesFrom}
+use Rattle.cases.proofs.ExamplesHold.{examples-hold}
 use Rattle.cells.specs.Filled.{filled}
 use Rattle.refusals.specs.Given.{givenAs}
 use Rattle.refusals.specs.declared.Refusal.{Refusal}
@@ -87,7 +87,7 @@ outside-all table′ work′ h = ask-exact 1 [] [] (lent 2) (lent 8) Outside tab
 -- a is no member of the trivial subgroup
 letter-outside : Member (wordsOf []) (queryWord (97 ∷ [])) → ⊥
 unfolding bytesFrom letterOf placeIn letterBytes
-letter-outside = examples-hold .1 .0 .1 .answers .1 .0
+letter-outside = examples-hold .1 .0 .answers .1 .0 .0
 
 pub inside-all : (table′ work′ : List ℕ) → AskOutcome 1 [] (97 ∷ []) (lent 2) (lent 8) Inside table′ work′ → ⊥
 inside-all table′ work′ h =

@@ -21,7 +21,7 @@ use Rattle.theory.specs.TableRefusals.{isLent, atCell, cellRefusal}
 use Rattle.theory.specs.Tables.{cell}
 use Rattle.theory.specs.Canonical.{faultyCell}
 use Rattle.theory.specs.Basis.{scan, basisOf}
-use Rattle.theory.specs.Examples.{listText}
+use Rattle.theory.specs.Texts.{listText}
 use Rattle.theory.proofs.RefusalLaws.{alphabet-in}
 use Rattle.theory.proofs.CanonicalLaws.{table-none-canonical}
 use Rattle.theory.proofs.TableRefusalLaws.{

@@ -19,7 +19,7 @@ use Rattle.theory.specs.Letters.{byteOf, lineEnd, usual}
 use Rattle.theory.specs.Tables.{absent, Cells, Leads, cell}
 use Rattle.theory.specs.Graphs.{isLower}
 use Rattle.theory.specs.Basis.{Spot, firstMet, pathOf, isSpot, isPathStep, isPathEdge, those, isEdge, edgesOf, outsideEdges, basisWord, scan}
-use Rattle.theory.specs.Examples.{listText}
+use Rattle.theory.specs.Texts.{listText}
 use Rattle.theory.proofs.RefusalLaws.{and-true}
 use Rattle.theory.proofs.TableLaws.{length-usual, getD-usual}
 use Rattle.theory.proofs.EdgeLaws.{mem-those, mem-scan}

@@ -43,7 +43,7 @@ use Rattle.theory.specs.Basis.{
   basisWord,
   basisOf,
 }
-use Rattle.theory.specs.Examples.{bytesFrom, bytes, listText}
+use Rattle.theory.specs.Texts.{bytesFrom, bytes, listText}
 use Rattle.cells.specs.Filled.{filled}
 use Rattle.refusals.specs.declared.Refusal.{Refusal}
 use Rattle.bases.specs.Bases.{basisText, earlyRefusal, basisRefusal, answerFor, workFor, outFor, BasisOutcome}

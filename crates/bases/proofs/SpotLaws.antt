@@ -12,7 +12,7 @@ use lib.ListN.{length, take, drop, length-append, take-append-drop}
 use Rattle.theory.specs.Letters.{byteOf, lineEnd}
 use Rattle.theory.specs.Tables.{Cells}
 use Rattle.theory.specs.Basis.{Spot, spotsOf, scan, isPathEdge, those, isEdge, edgesOf, outsideEdges, basisWord, basisOf}
-use Rattle.theory.specs.Examples.{listText}
+use Rattle.theory.specs.Texts.{listText}
 use Rattle.theory.proofs.WordLaws.{byTest}
 use Rattle.bases.specs.Words.{isOutside, basisIn, textOf, sizeIn, grown}
 use Rattle.bases.specs.declared.Size.{Size}

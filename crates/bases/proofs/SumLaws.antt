@@ -17,7 +17,7 @@ use lib.Seq.{sets, length-sets, take-suc, take-all}
 use Rattle.theory.specs.Letters.{usual}
 use Rattle.theory.specs.Tables.{Cells, cell}
 use Rattle.theory.specs.Basis.{Spot, spotsOf, scan, basisOf}
-use Rattle.theory.specs.Examples.{listText}
+use Rattle.theory.specs.Texts.{listText}
 use Rattle.theory.proofs.WordLaws.{byTest}
 use Rattle.theory.proofs.TableLaws.{length-usual, getD-usual}
 use Rattle.theory.proofs.PathLaws.{spot}

@@ -17,7 +17,7 @@ use Rattle.theory.specs.Refusals.{Refusal as FirstCause, Cause1, Cause6Lent, Ca
 use Rattle.theory.specs.TableRefusals.{Cause8, isLent, cellRefusal}
 use Rattle.theory.specs.Tables.{cell}
 use Rattle.theory.specs.Basis.{basisOf}
-use Rattle.theory.specs.Examples.{listText}
+use Rattle.theory.specs.Texts.{listText}
 use Rattle.cells.specs.Filled.{filled}
 use Rattle.refusals.specs.Given.{given}
 use Rattle.bases.specs.declared.BasisAnswer.{BasisAnswer}

@@ -15,7 +15,7 @@ use lib.ListN.{length}
 use Rattle.theory.specs.Letters.{usual}
 use Rattle.theory.specs.Tables.{Cells, cell}
 use Rattle.theory.specs.Basis.{Spot, isPathEdge, those, isEdge, basisWord}
-use Rattle.theory.specs.Examples.{listText}
+use Rattle.theory.specs.Texts.{listText}
 use Rattle.paths.specs.Paths.{Ready, PathCells}
 use Rattle.bases.specs.declared.Size.{Size}
 

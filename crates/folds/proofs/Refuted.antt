@@ -23,9 +23,9 @@ use Rattle.theory.specs.Letters.{letterBytes, placeIn, letterOf, onFirst, words
 use Rattle.theory.specs.Refusals.{isAlphabet, bytesRefusal, isUnended, textRefusal}
 use Rattle.theory.specs.Tables.{absent, cell, endOf, isAccepted}
 use Rattle.theory.specs.Graphs.{nonEmptyWords}
-use Rattle.theory.specs.Examples.{bytesFrom, bytes, word}
-use Rattle.theory.specs.Cases.{twoAndThree, twice, hairAtBase}
-use Rattle.theory.proofs.ExamplesHold.{examples-hold}
+use Rattle.theory.specs.Texts.{bytesFrom, bytes, word}
+use Rattle.cases.specs.Cases.{twoAndThree, twice, hairAtBase}
+use Rattle.cases.proofs.ExamplesHold.{examples-hold}
 use Rattle.cells.specs.Filled.{filled}
 use Rattle.refusals.specs.declared.Refusal.{Refusal}
 use Rattle.folds.specs.declared.FoldFigures.{FoldFigures}
@@ -122,14 +122,14 @@ pub base-trimmed : (table work : List ℕ) (f : FoldFigures) (work′ : List ℕ
 unfolding bytesFrom letterOf placeIn letterBytes isAccepted endOf reducedBy put cell
 base-trimmed table work f work′ e h =
     admits 2 (hairAtBase .text) table work f other work′ h 1 e (word "b")
-    (examples-hold .1 .1 .1 .1 .1 .1 .0 .1 .answers .1 .0) refl
+    (examples-hold .1 .1 .1 .1 .1 .1 .0 .answers .1 .0 .0) refl
 
 -- ── Figures ──
 
 pub invented-folds : (table work : List ℕ) (f : FoldFigures) (table′ work′ : List ℕ) → ((f .merging ≡ 3) × (f .closing ≡ 1) → ⊥)
     → FoldOutcome 2 (twoAndThree .text) table work (Made f) table′ work′ → ⊥
 invented-folds table work f table′ work′ e h =
-    let x = examples-hold .1 .1 .1 .0 .1 .folding in
+    let x = examples-hold .1 .1 .1 .0 .folding in
     e (made-done 2 (twoAndThree .text) table work f table′ work′ h .1 .folds (x .0) 3 1 (x .1))
 
 two-words : nonEmptyWords (wordsOf (twice .text)) ≡ 2
@@ -139,6 +139,6 @@ two-words = refl
 pub rank-as-given : (table work : List ℕ) (f : FoldFigures) (table′ work′ : List ℕ) → f .counts .rank ≡ 2
     → FoldOutcome 2 (twice .text) table work (Made f) table′ work′ → ⊥
 rank-as-given table work f table′ work′ e h =
-    let x = examples-hold .1 .1 .1 .1 .0 .1 .folding in
+    let x = examples-hold .1 .1 .1 .1 .0 .folding in
     let d = made-done 2 (twice .text) table work f table′ work′ h .1 .folds (x .0) 1 1 (x .1) in
     omega (arith, e, d .1, fold-counts-are-folds 2 (twice .text) table work f table′ work′ h .1, two-words)

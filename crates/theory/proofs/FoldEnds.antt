@@ -20,7 +20,6 @@ pub use Rattle.theory.specs.Subgroups.{Prefix, EndsAlike, PointOf, SameG
 use Rattle.theory.specs.Canonical.{Canonical}
 use Rattle.theory.specs.Graphs.{Edge, Graph, isLower, edgeOf, Along}
 use Rattle.theory.specs.Folds.{Pair, edgeAt, Folded}
-use Rattle.theory.specs.Textbook.{otherEnd}
 use Rattle.theory.proofs.WordLaws.{byTest, letters, reduced-idem, reduced-append, inverse-cong, member-listed}
 use Rattle.theory.proofs.ReadLaws.{Steps, Inverse, reads-append, reads-split, reads-back, reads-reduced}
 use Rattle.theory.proofs.ReadLaws.{ends-loop, loop-ends, canonical-inverse}
@@ -30,7 +29,7 @@ use Rattle.theory.proofs.OneTable.{point-reached, canonical-home, Accep
 use Rattle.theory.proofs.PathLaws.{Setting, inverses}
 use Rattle.theory.proofs.DistinctLaws.{getD-mem}
 use Rattle.theory.proofs.MemLaws.{_∈_, mem-dec}
-use Rattle.theory.proofs.GraphLaws.{edge-other, along-back}
+use Rattle.theory.proofs.GraphLaws.{otherEnd, edge-other, along-back}
 use Rattle.theory.proofs.LabelLaws.{alike-in, alike-swap}
 use Rattle.theory.proofs.StartLaws.{Good}
 use Rattle.theory.proofs.SameLaws.{ReadsHome, Core, Same, reads-in, same-of-home}

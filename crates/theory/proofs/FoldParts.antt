@@ -18,11 +18,10 @@ use borrow.Author.Tests.{eq-eqb, ne-eqb, eqb-true, eqb-false}
 use Rattle.theory.specs.Words.{inv}
 use Rattle.theory.specs.Graphs.{Edge, isLower, edgeOf, Along}
 use Rattle.theory.specs.Folds.{Pair, removeAt, renamed, renamedEdge, without}
-use Rattle.theory.specs.Textbook.{otherEnd}
 use Rattle.theory.proofs.WordLaws.{byTest}
 use Rattle.theory.proofs.DistinctLaws.{Distinct, mem-getD}
 use Rattle.theory.proofs.MemLaws.{_∈_, here, further, mem-cons, mem-none, mem-cast}
-use Rattle.theory.proofs.GraphLaws.{edge-path, letterAlong, startEnd, edge-along, along-back}
+use Rattle.theory.proofs.GraphLaws.{edge-path, letterAlong, startEnd, otherEnd, edge-along, along-back}
 
 -- ── Names ──
 

@@ -19,12 +19,11 @@ use Rattle.theory.specs.Words.{inv, reduced, inverseOf, Member}
 use Rattle.theory.specs.Tables.{Reads}
 use Rattle.theory.specs.Graphs.{Edge, Graph, edgeOf, Along}
 use Rattle.theory.specs.Folds.{Kind, merging, closing, edgeAt, removeAt, renamed, renamedEdge, folded, FoldStep, Folding, done, merge, close}
-use Rattle.theory.specs.Textbook.{otherEnd}
 use Rattle.theory.proofs.WordLaws.{byTest}
 use Rattle.theory.proofs.ReadLaws.{Steps, member-subgroup}
 use Rattle.theory.proofs.DistinctLaws.{Distinct, mem-getD, getD-mem, mem-map, map-mem}
 use Rattle.theory.proofs.MemLaws.{_∈_, mem-cast}
-use Rattle.theory.proofs.GraphLaws.{startEnd, edge-generator, edge-start, edge-other, edge-ends, along-back}
+use Rattle.theory.proofs.GraphLaws.{startEnd, otherEnd, edge-generator, edge-start, edge-other, edge-ends, along-back}
 use Rattle.theory.proofs.LabelLaws.{self-inverse, alike-in, alike-sym, alike-step, alike-ends}
 use Rattle.theory.proofs.CircleLaws.{TwoWays}
 use Rattle.theory.proofs.StartLaws.{Good}

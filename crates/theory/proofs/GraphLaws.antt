@@ -1,6 +1,6 @@
 -- Laws of edges read by letters (`specs/Graphs`).
 --   letterAlong e == the lower-case letter that reads e from its source to its target
---   startEnd y e  == the end of e from which the letter y reads it; `otherEnd y e` is the end to which
+--   startEnd y e  == the end of e from which the letter y reads it; otherEnd y e == the end to which
 --   edge-along     : an edge is what its letter reads from its source to its target
 --   along-back     : what a letter reads, its inverse reads back
 --   Within es E   <-> what the edges es read, E reads
@@ -17,7 +17,6 @@ use native.Mathlib.Omega.{arith}
 use borrow.Author.Tests.{eq-eqb}
 use Rattle.theory.specs.Words.{inv}
 use Rattle.theory.specs.Graphs.{Edge, isLower, generatorOf, edgeOf, Along}
-use Rattle.theory.specs.Textbook.{otherEnd}
 use Rattle.theory.proofs.WordLaws.{byTest}
 use Rattle.theory.proofs.ReadLaws.{Steps}
 use Rattle.theory.proofs.EdgeLaws.{lower-inverse, capital-inverse}
@@ -32,6 +31,9 @@ letterAlong e = 2 * (e .generator - 1)
 
 abbrev pub startEnd : ℕ → Edge → ℕ
 startEnd y e = cond (isLower y) (e .source) (e .target)
+
+unfoldable pub otherEnd : ℕ → Edge → ℕ
+otherEnd y e = cond (isLower y) (e .target) (e .source)
 
 module _ (v y x : ℕ) where
   -- a lower-case letter reads an edge from its source

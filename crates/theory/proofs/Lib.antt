@@ -17,7 +17,6 @@ pub mod PathLaws
 pub mod EdgeLaws
 pub mod BasisLaws
 pub mod ExpressionLaws
-pub mod FoldLaws
 pub mod MemLaws
 pub mod GraphLaws
 pub mod LabelLaws
@@ -30,5 +29,3 @@ pub mod FoldEnds
 pub mod EdgeCounts
 pub mod FoldCounts
 pub mod Main
-pub mod CaseLaws
-pub mod ExamplesHold

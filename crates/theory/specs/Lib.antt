@@ -1,14 +1,12 @@
 pub mod Words
 pub mod Letters
+pub mod Texts
 pub mod Refusals
 pub mod Tables
 pub mod Canonical
 pub mod Graphs
 pub mod Folds
-pub mod Textbook
 pub mod Basis
 pub mod Files
 pub mod Subgroups
 pub mod TableRefusals
-pub mod Examples
-pub mod Cases

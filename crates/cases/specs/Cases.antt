@@ -1,15 +1,17 @@
--- Document 01's small graphs: one list of cases. `proofs/ExamplesHold` proves one statement over it, `Every AsDocumented examples`.
---   examples == the cases marked P, the printed run, and a case for each refusal of a list
+-- Document 01's small graphs: one list of cases. `proofs/ExamplesHold` proves one statement over it,
+-- `Every AsDocumented examples` (`Claims`).
+--   examples == the printed run, the cases marked P, and four more lists that are refused: by 1, by 3, and by 4 before 3
+-- The first list's words are those of 004's introduction: `firstList` has the product that reduces to aa, then the one printed there.
 -- The table of a case is given; that it is the list's is part of what is shown. Assumes nothing.
 use mathlib.Core.Bool.{true, false}
 use mathlib.Core.Option.{none, some}
 use mathlib.Core.List.{List, [], _∷_}
 use Prim.Native.Nat.{ℕ}
 use lib.IntN.{pos, negsuc}
-use lib.ListN.{replicate}
+use Rattle.theory.specs.Texts.{bytes, word}
 use Rattle.theory.specs.Tables.{absent}
 use Rattle.theory.specs.Basis.{finite, infinite}
-use Rattle.theory.specs.Examples.{bytes, word, refused, accepted, Case}
+use Rattle.cases.specs.Claims.{refused, accepted, Case}
 
 -- a list that is refused: number and place
 abbrev pub turnedAway : ℕ → List ℕ → ℕ → ℕ → Case
@@ -24,14 +26,12 @@ printedRun =
       text = bytes "aaB\nbAba\nabA\naaaaaa\n";
       points = 2;
       table = 1 ∷ 1 ∷ 0 ∷ 0 ∷ 0 ∷ 0 ∷ 1 ∷ 1 ∷ [];
-      queries = "aba" ∷ "a" ∷ "aA" ∷ "bAba" ∷ [];
-      products = (negsuc 2 ∷ pos 1 ∷ pos 2 ∷ []) ∷ (pos 1 ∷ pos 2 ∷ negsuc 2 ∷ []) ∷ [];
+      queries = "aba" ∷ "a" ∷ "aA" ∷ [];
+      products = [];
       generated = (negsuc 0 ∷ negsuc 2 ∷ pos 1 ∷ pos 2 ∷ []) ∷ (negsuc 2 ∷ pos 1 ∷ pos 2 ∷ []) ∷ (pos 3 ∷ []) ∷ [];
       expected =
           accepted
           (record {
-            faulty = none;
-            listed = true;
             edges = 4;
             rank = 3;
             index = finite 2;
@@ -40,17 +40,11 @@ printedRun =
             startEdges = 16;
             merges = 11;
             closes = 1;
-            endPoints = 2;
-            endEdges = 4;
-            basis = bytes "b\naa\nabA\n";
-            answers =
-                some (pos 3 ∷ pos 2 ∷ [])
-                ∷ none
-                ∷ some []
-                ∷ some (pos 1 ∷ negsuc 1 ∷ pos 3 ∷ pos 2 ∷ [])
-                ∷ [];
-            reductions = word "aa" ∷ word "abaaBA" ∷ [];
+            basis = word "b" ∷ word "aa" ∷ word "abA" ∷ [];
+            answers = some (pos 3 ∷ pos 2 ∷ []) ∷ none ∷ some [] ∷ [];
+            reductions = [];
             file = 1 ∷ 2 ∷ 2 ∷ 2 ∷ 2 ∷ 1 ∷ 1 ∷ 1 ∷ 1 ∷ 2 ∷ 2 ∷ [];
+            lines = bytes "points 2\nedges 4\nrank 3\nindex 2\nnormal yes\nstart 13 16\nfolds 11 1\nbasis b\nbasis aa\nbasis abA\naba yes 3 2\na no\naA yes\n";
           });
     }
 
@@ -68,8 +62,6 @@ emptyList =
       expected =
           accepted
           (record {
-            faulty = none;
-            listed = true;
             edges = 0;
             rank = 0;
             index = infinite;
@@ -78,12 +70,11 @@ emptyList =
             startEdges = 0;
             merges = 0;
             closes = 0;
-            endPoints = 1;
-            endEdges = 0;
-            basis = bytes "";
+            basis = [];
             answers = some [] ∷ none ∷ [];
             reductions = [];
             file = 1 ∷ 2 ∷ 1 ∷ 0 ∷ 0 ∷ 0 ∷ 0 ∷ [];
+            lines = bytes "points 1\nedges 0\nrank 0\nindex infinite\nnormal yes\nstart 1 0\nfolds 0 0\n yes\na no\n";
           });
     }
 
@@ -101,8 +92,6 @@ cancelledWord =
       expected =
           accepted
           (record {
-            faulty = none;
-            listed = true;
             edges = 0;
             rank = 0;
             index = infinite;
@@ -111,12 +100,11 @@ cancelledWord =
             startEdges = 0;
             merges = 0;
             closes = 0;
-            endPoints = 1;
-            endEdges = 0;
-            basis = bytes "";
+            basis = [];
             answers = some [] ∷ none ∷ [];
             reductions = [];
             file = 1 ∷ 2 ∷ 1 ∷ 0 ∷ 0 ∷ 0 ∷ 0 ∷ [];
+            lines = bytes "points 1\nedges 0\nrank 0\nindex infinite\nnormal yes\nstart 1 0\nfolds 0 0\n yes\na no\n";
           });
     }
 
@@ -134,8 +122,6 @@ twoAndThree =
       expected =
           accepted
           (record {
-            faulty = none;
-            listed = true;
             edges = 1;
             rank = 1;
             index = infinite;
@@ -144,12 +130,11 @@ twoAndThree =
             startEdges = 5;
             merges = 3;
             closes = 1;
-            endPoints = 1;
-            endEdges = 1;
-            basis = bytes "b\n";
+            basis = word "b" ∷ [];
             answers = some (pos 1 ∷ []) ∷ [];
             reductions = [];
             file = 1 ∷ 2 ∷ 1 ∷ 0 ∷ 0 ∷ 1 ∷ 1 ∷ [];
+            lines = bytes "points 1\nedges 1\nrank 1\nindex infinite\nnormal yes\nstart 4 5\nfolds 3 1\nbasis b\nb yes 1\n";
           });
     }
 
@@ -167,8 +152,6 @@ twice =
       expected =
           accepted
           (record {
-            faulty = none;
-            listed = true;
             edges = 2;
             rank = 1;
             index = infinite;
@@ -177,12 +160,11 @@ twice =
             startEdges = 4;
             merges = 1;
             closes = 1;
-            endPoints = 2;
-            endEdges = 2;
-            basis = bytes "ab\n";
+            basis = word "ab" ∷ [];
             answers = some (pos 1 ∷ []) ∷ [];
             reductions = [];
             file = 1 ∷ 2 ∷ 2 ∷ 2 ∷ 0 ∷ 0 ∷ 2 ∷ 0 ∷ 1 ∷ 1 ∷ 0 ∷ [];
+            lines = bytes "points 2\nedges 2\nrank 1\nindex infinite\nnormal no\nstart 3 4\nfolds 1 1\nbasis ab\nab yes 1\n";
           });
     }
 
@@ -200,8 +182,6 @@ unreducedQuery =
       expected =
           accepted
           (record {
-            faulty = none;
-            listed = true;
             edges = 2;
             rank = 1;
             index = infinite;
@@ -210,12 +190,11 @@ unreducedQuery =
             startEdges = 2;
             merges = 0;
             closes = 0;
-            endPoints = 2;
-            endEdges = 2;
-            basis = bytes "ab\n";
+            basis = word "ab" ∷ [];
             answers = some (pos 1 ∷ []) ∷ [];
             reductions = [];
             file = 1 ∷ 2 ∷ 2 ∷ 2 ∷ 0 ∷ 0 ∷ 2 ∷ 0 ∷ 1 ∷ 1 ∷ 0 ∷ [];
+            lines = bytes "points 2\nedges 2\nrank 1\nindex infinite\nnormal no\nstart 2 2\nfolds 0 0\nbasis ab\naBbb yes 1\n";
           });
     }
 
@@ -233,8 +212,6 @@ hairAtBase =
       expected =
           accepted
           (record {
-            faulty = none;
-            listed = true;
             edges = 2;
             rank = 1;
             index = infinite;
@@ -243,12 +220,11 @@ hairAtBase =
             startEdges = 3;
             merges = 1;
             closes = 0;
-            endPoints = 2;
-            endEdges = 2;
-            basis = bytes "abA\n";
+            basis = word "abA" ∷ [];
             answers = some (pos 1 ∷ []) ∷ none ∷ [];
             reductions = [];
             file = 1 ∷ 2 ∷ 2 ∷ 2 ∷ 0 ∷ 0 ∷ 0 ∷ 0 ∷ 1 ∷ 2 ∷ 2 ∷ [];
+            lines = bytes "points 2\nedges 2\nrank 1\nindex infinite\nnormal no\nstart 3 3\nfolds 1 0\nbasis abA\nabA yes 1\nb no\n";
           });
     }
 
@@ -266,8 +242,6 @@ cube =
       expected =
           accepted
           (record {
-            faulty = none;
-            listed = true;
             edges = 3;
             rank = 1;
             index = finite 3;
@@ -276,12 +250,41 @@ cube =
             startEdges = 3;
             merges = 0;
             closes = 0;
-            endPoints = 3;
-            endEdges = 3;
-            basis = bytes "aaa\n";
+            basis = word "aaa" ∷ [];
             answers = some (negsuc 0 ∷ []) ∷ none ∷ [];
             reductions = [];
             file = 1 ∷ 1 ∷ 3 ∷ 2 ∷ 3 ∷ 3 ∷ 1 ∷ 1 ∷ 2 ∷ [];
+            lines = bytes "points 3\nedges 3\nrank 1\nindex 3\nnormal yes\nstart 3 3\nfolds 0 0\nbasis aaa\nAAA yes -1\naa no\n";
+          });
+    }
+
+-- the same list: bAba, and the introduction's product
+abbrev pub firstList : Case
+firstList =
+    record {
+      n = 2;
+      text = bytes "aaB\nbAba\nabA\naaaaaa\n";
+      points = 2;
+      table = 1 ∷ 1 ∷ 0 ∷ 0 ∷ 0 ∷ 0 ∷ 1 ∷ 1 ∷ [];
+      queries = "bAba" ∷ [];
+      products = (negsuc 2 ∷ pos 1 ∷ pos 2 ∷ []) ∷ (pos 1 ∷ pos 2 ∷ negsuc 2 ∷ []) ∷ [];
+      generated = (negsuc 0 ∷ negsuc 2 ∷ pos 1 ∷ pos 2 ∷ []) ∷ (negsuc 2 ∷ pos 1 ∷ pos 2 ∷ []) ∷ (pos 3 ∷ []) ∷ [];
+      expected =
+          accepted
+          (record {
+            edges = 4;
+            rank = 3;
+            index = finite 2;
+            normal = true;
+            startPoints = 13;
+            startEdges = 16;
+            merges = 11;
+            closes = 1;
+            basis = word "b" ∷ word "aa" ∷ word "abA" ∷ [];
+            answers = some (pos 1 ∷ negsuc 1 ∷ pos 3 ∷ pos 2 ∷ []) ∷ [];
+            reductions = word "aa" ∷ word "abaaBA" ∷ [];
+            file = 1 ∷ 2 ∷ 2 ∷ 2 ∷ 2 ∷ 1 ∷ 1 ∷ 1 ∷ 1 ∷ 2 ∷ 2 ∷ [];
+            lines = bytes "points 2\nedges 4\nrank 3\nindex 2\nnormal yes\nstart 13 16\nfolds 11 1\nbasis b\nbasis aa\nbasis abA\nbAba yes 1 -2 3 2\n";
           });
     }
 
@@ -295,12 +298,12 @@ examples =
     ∷ unreducedQuery
     ∷ hairAtBase
     ∷ cube
+    ∷ firstList
     ∷ turnedAway 1 (bytes "b\n") 4 0
     ∷ turnedAway 1 (bytes "a") 5 1
     ∷ turnedAway 1 (bytes "b") 4 0
     ∷ turnedAway 0 (bytes "1") 1 0
     ∷ turnedAway 27 (bytes "1") 1 0
-    ∷ turnedAway 1 (replicate 1048577 49) 2 0
     ∷ turnedAway 1 (bytes "a1b\n") 3 1
     ∷ turnedAway 1 (bytes "ab1") 4 1
     ∷ []
