@@ -2,7 +2,7 @@
 --   Expresses ws ks q      <-> ks names words of ws or their inverses, none beside its own inverse, and their product reduces to q
 --   refused-by-first-cause  : a table is refused by a number at a place exactly if that is the first cause that applies
 --   every-table-written     : where no cause applies a basis is written
---   written-canonical       : a basis is written of a canonical table only, over 1 to 26 generators
+--   written-canonical       : a basis is written of a canonical table only, over 1 to 26 generators; written-lent : with all its cells
 --   written-text            : the bytes written are the basis as a list text, and what stands behind them is as it was
 --   written-words           : its words are the basis words, and are as many as is said
 --   written-list            : it is a list over the same generators, refused by none but 2, where it is too long
@@ -105,6 +105,10 @@ module _ (n N : ℕ) (t work out : List ℕ) (words bytes : ℕ) (work′ out′
   pub written-canonical : (1 ≤ n) × (n ≤ 26) × (0 < N) × Canonical N (usual n) (cell n N t)
   written-canonical =
       let a = alphabet-in n (ready .alphabet) in (a .0, a .1, lent-in n N (length t) (ready .lent) .0, ready .canonical)
+
+  -- the table has its N × 2n cells
+  pub written-lent : N * (2 * n) ≤ length t
+  written-lent = lent-in n N (length t) (ready .lent) .2
 
   setting : Setting (cell n N t) N (usual n)
   setting = let c = written-canonical in usual-setting n N t (c .3) (c .2)

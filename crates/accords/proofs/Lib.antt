@@ -1,0 +1,4 @@
+-- What several functions say of one another, a file a pair.
+pub mod FoldedTables
+pub mod BasisFolds
+pub mod AskMembers
