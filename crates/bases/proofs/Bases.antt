@@ -42,6 +42,7 @@ use Rattle.theory.proofs.Main.{
   empty-word-expressed,
 }
 use Rattle.theory.proofs.ExpressionLaws.{basis-generates, basis-accepts}
+use Rattle.theory.proofs.ListTexts.{words-of-text, text-fine, text-long, basis-below}
 use Rattle.refusals.specs.Given.{given, givenAs}
 use Rattle.refusals.specs.declared.Refusal.{Refusal}
 use Rattle.paths.specs.Paths.{Ready}
@@ -49,7 +50,6 @@ use Rattle.bases.specs.Bases.{basisWords, basisText, BasisCause, earlyRe
 use Rattle.bases.specs.declared.BasisAnswer.{BasisAnswer}
 use Rattle.bases.specs.declared.BasisAnswer.the-variants.{Refused, Written}
 use Rattle.bases.proofs.AnswerLaws.{early-fine, early-else, basis-refusal-first, basis-refusal-none}
-use Rattle.bases.proofs.ListTexts.{words-of-text, text-fine, text-long, basis-below}
 
 pub record Expresses (ws : List (List ℕ)) (ks : List ℤ) (q : List ℕ) : Type 0 where
   pub named : AllNames (length ws) ks

@@ -4,7 +4,6 @@ pub mod SpotLaws
 pub mod PathedLaws
 pub mod SumLaws
 pub mod AnswerLaws
-pub mod ListTexts
 pub mod Bases
 pub mod Determined
 pub mod Refuted
