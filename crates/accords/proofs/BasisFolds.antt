@@ -1,7 +1,9 @@
 -- What `basis` and `fold` say of one another (document 01).
 --   basis-folds-back     : a written basis, folded, gives the table that it was written of: as many points, and the same rows
 --   basis-can-be-folded  : and it folds, if it has at most 1,048,576 bytes and the cells needed are lent
+--   basis-folds-figures  : with the edges, rank and index of that table
 --   basis-closes-nothing : folding it takes no closing fold
+--   basis-again          : the basis of what it folds to is the same text
 --   fold-basis-fold      : a list's table, its basis, and the table of that: the two tables are the same, and so are their figures
 --   fold-basis-subgroup  : and the basis generates the list's subgroup
 -- Assumes nothing.
@@ -14,16 +16,18 @@ use Rattle.theory.specs.Words.{SameSubgroup}
 use Rattle.theory.specs.Letters.{usual, wordsOf}
 use Rattle.theory.specs.Refusals.{textLimit}
 use Rattle.theory.specs.Tables.{Cells, cell}
-use Rattle.theory.specs.Basis.{edgesOf, rankOf, indexOf}
+use Rattle.theory.specs.Basis.{edgesOf, basisOf, rankOf, indexOf}
+use Rattle.theory.specs.Examples.{listText}
 use Rattle.theory.proofs.OneTable.{rows-of-cells}
 use Rattle.theory.proofs.StartLaws.{nonEmptyWords-all}
 use Rattle.theory.proofs.Main.{tables-equal-iff-same-subgroup}
 use Rattle.tables.specs.Checks.{figuresAs, indexAs}
 use Rattle.tables.specs.declared.Figures.{Figures}
-use Rattle.bases.specs.Bases.{BasisOutcome}
+use Rattle.bases.specs.Bases.{basisText, BasisOutcome}
 use Rattle.bases.specs.declared.BasisAnswer.the-variants.{Written}
 use Rattle.bases.proofs.Bases.{
   written-lent,
+  written-text,
   written-words,
   written-list,
   written-basis-table,
@@ -84,6 +88,16 @@ module _ (n N : ℕ) (t work out : List ℕ) (words bytes : ℕ) (work′ out′
           written-words n N t work out words bytes work′ out′ h .1,
           written-basis-rank n N t work out words bytes work′ out′ h,
         )
+
+    -- and so is its basis
+    pub basis-again : (room rest : List ℕ) (more size : ℕ) (room′ rest′ : List ℕ)
+        → BasisOutcome n (f .points) table′ room rest (Written more size) room′ rest′ → take size rest′ ≡ take bytes out′
+    unfolding basisText
+    basis-again room rest more size room′ rest′ b =
+        written-text n (f .points) table′ room rest more size room′ rest′ b .0
+        ∙ ap (λ p. listText (basisOf (cell n (f .points) table′) p (usual n))) (same-cells .0)
+        ∙ ap (λ (c : Cells). listText (basisOf c N (usual n))) (fun-ext (λ v. fun-ext (λ y. same-cells .1 v y)))
+        ∙ sym (written-text n N t work out words bytes work′ out′ h .0)
 
   pub basis-can-be-folded : (table cells : List ℕ) → bytes ≤ textLimit → rowsOf (take bytes out′) * (2 * n) ≤ length table
       → workOf (take bytes out′) ≤ length cells → (r : Folded) (table′ cells′ : List ℕ) → FoldOutcome n (take bytes out′) table cells r table′ cells′

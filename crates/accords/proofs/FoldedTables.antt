@@ -1,5 +1,5 @@
 -- The table that `fold` leaves, lent to the functions that take a table (document 01).
---   folded-lent       : it is a lent table: 1 to 1,048,577 points, and all their cells
+--   folded-lent       : it is a lent table: 1 to 1,048,577 points, and all their cells; folded-alphabet : over 1 to 26 generators
 --   folded-sound      : no cell of it is faulty
 --   folded-checks     : `check` refuses it nowhere, and gives the figures that `fold` gave
 --   folded-members    : of a query that is not refused, `member` says Inside exactly if it is a member of the list's subgroup
@@ -17,7 +17,7 @@ use native.Mathlib.Omega.{arith}
 use lib.ListN.{length}
 use Rattle.theory.specs.Words.{Member}
 use Rattle.theory.specs.Letters.{wordsOf}
-use Rattle.theory.specs.Refusals.{Refusal as FirstCause, textLimit, pointLimit, textRefusal}
+use Rattle.theory.specs.Refusals.{Refusal as FirstCause, textLimit, pointLimit, isAlphabet, textRefusal}
 use Rattle.theory.specs.TableRefusals.{isLent, cellRefusal, checkRefusal, memberRefusal, atCell}
 use Rattle.theory.proofs.RefusalLaws.{in-alphabet, refusal-none}
 use Rattle.theory.proofs.TextLaws.{letters-le}
@@ -80,13 +80,15 @@ module _ (n : ℕ) (list table work : List ℕ) (f : FoldFigures) (table′ work
   unfolding cellRefusal
   folded-sound = ap atCell (table-canonical-none n (f .points) table′ (done .subgroup .canonical))
 
+  pub folded-alphabet : isAlphabet n ≡ true
+  folded-alphabet = let a = fine-alphabet n list (fine .0) in in-alphabet n (a .0) (a .1)
+
   pub folded-checks : (r : Checked) → CheckOutcome n (f .points) table′ r → r ≡ Counted (f .counts)
   unfolding checkedAs checkRefusal
   folded-checks r c = c ∙ ap (checkedFor n (f .points) table′) clear ∙ ap Counted (sym (done .counts))
     where
       clear : checkRefusal n (f .points) table′ ≡ none
-      clear =
-          let a = fine-alphabet n list (fine .0) in rw (in-alphabet n (a .0) (a .1), folded-lent, folded-sound)
+      clear = rw (folded-alphabet, folded-lent, folded-sound)
 
   pub folded-members : (query cells : List ℕ) (a : Answer) (after : List ℕ) → MemberOutcome n (f .points) table′ query cells a after
       → ((c : Refusal) → a ≡ Refused c → ⊥) → (a ≡ Inside) ↔ Member (wordsOf list) (queryWord query)
