@@ -89,7 +89,7 @@ module _ (n N : ℕ) (t work out : List ℕ) (words bytes : ℕ) (work′ out′
           written-basis-rank n N t work out words bytes work′ out′ h,
         )
 
-    -- and so is its basis
+    -- the basis of what it folds to is the same text
     pub basis-again : (room rest : List ℕ) (more size : ℕ) (room′ rest′ : List ℕ)
         → BasisOutcome n (f .points) table′ room rest (Written more size) room′ rest′ → take size rest′ ≡ take bytes out′
     unfolding basisText
