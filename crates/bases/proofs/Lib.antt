@@ -4,5 +4,6 @@ pub mod SpotLaws
 pub mod PathedLaws
 pub mod SumLaws
 pub mod AnswerLaws
+pub mod Bases
 pub mod Determined
 pub mod Refuted

@@ -17,6 +17,7 @@ pub mod PathLaws
 pub mod EdgeLaws
 pub mod BasisLaws
 pub mod ExpressionLaws
+pub mod ListTexts
 pub mod MemLaws
 pub mod GraphLaws
 pub mod LabelLaws

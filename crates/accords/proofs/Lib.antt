@@ -1,0 +1,5 @@
+-- What several functions say of one another, a file a pair.
+pub mod FoldedTables
+pub mod FoldEquals
+pub mod BasisFolds
+pub mod AskMembers
