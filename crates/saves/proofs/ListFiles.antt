@@ -1,13 +1,16 @@
 -- Two lists with one file are the same (theory's `listFile`).
 --   split-one     : two runs of as many numbers, each before other bytes
 --   list-file-one : two lists whose letters and lengths are numbers and that have one file are the same
+--   list-file-here : abA, the empty word and b with n = 2 are 02 02 03 03 00 02 01 00 01 02; and the empty list is 02 02 00
 -- Assumes nothing.
 use mathlib.Core.Path.{_≡_, refl, sym, _∙_, ap}
 use mathlib.Core.List.{List, [], _∷_, _++_, append-assoc}
 use Prim.Native.Nat.{ℕ, _≤_}
 use native.Mathlib.Omega.{arith}
 use lib.ListN.{length}
-use Rattle.theory.specs.Files.{numberLimit, numberBytes, numbersBytes, wordNumbers, listFile}
+use Rattle.theory.specs.Files.{numberLimit, groups, numberBytes, numbersBytes, wordNumbers, listFile}
+use Rattle.theory.specs.Letters.{letterBytes, placeIn, letterOf, onFirst, wordsOf}
+use Rattle.theory.specs.Examples.{bytesFrom, bytes}
 use Rattle.numbers.proofs.Numbers.{number-one, AllFit}
 use Rattle.saves.proofs.RunLaws.{numbers-append}
 
@@ -53,3 +56,10 @@ list-file-one n m ws us hn hm lw lu fw fu f =
     let b = number-one n m (numbersBytes (length ws ∷ wordNumbers ws)) (numbersBytes (length us ∷ wordNumbers us)) (omega arith) (omega arith) (a .1) in
     let c = number-one (length ws) (length us) (numbersBytes (wordNumbers ws)) (numbersBytes (wordNumbers us)) lw lu (b .1) in
     (b .0, words-one ws us fw fu (c .0) (c .1))
+
+-- ── By computation ──
+
+pub list-file-here : (listFile 2 (wordsOf (bytes "abA\n\nb\n")) ≡ 2 ∷ 2 ∷ 3 ∷ 3 ∷ 0 ∷ 2 ∷ 1 ∷ 0 ∷ 1 ∷ 2 ∷ [])
+    × (listFile 2 (wordsOf []) ≡ 2 ∷ 2 ∷ 0 ∷ [])
+unfolding listFile wordNumbers numbersBytes numberBytes groups wordsOf onFirst letterOf placeIn letterBytes bytesFrom
+list-file-here = (refl, refl)
