@@ -5,11 +5,11 @@
 --   words-behind, words-over                   : the numbers of the words from place `at` on
 --   words-sized, words-low, word-room, words-run : the turns of `words_size` and `write_words`
 -- Assumes nothing.
-use mathlib.Core.Path.{_≡_, refl, sym, _∙_, ap, subst}
+use mathlib.Core.Path.{_≡_, refl, sym, _∙_, ap}
 use mathlib.Core.Logic.{by-cases}
 use mathlib.Core.Bool.{Bool, true, false, cond}
 use mathlib.Core.List.{List, [], _∷_, _++_, map}
-use Prim.Native.Nat.{ℕ, zero, suc, _+_, _-_, _*_, _≤_, _<_}
+use Prim.Native.Nat.{ℕ, suc, _+_, _-_, _*_, _≤_, _<_}
 use native.Mathlib.Decide.{ℕ-discrete}
 use native.Mathlib.Numerals.{add-one}
 use native.Mathlib.Omega.{arith}
@@ -17,7 +17,7 @@ use lib.ListN.{length, getD, take, drop, length-append, length-drop, drop-of-len
 use lib.Seq.{drop-cons, length-take-le}
 use borrow.Author.Tests.{eq-eqb, ne-eqb}
 use Rattle.theory.specs.Files.{numberLimit, numberBytes, numbersBytes, wordNumbers}
-use Rattle.theory.specs.Letters.{letterBytes, placeIn, letterOf, wordLength, firstWord, wordsOf, lettersIn}
+use Rattle.theory.specs.Letters.{letterBytes, placeIn, letterOf, wordLength, firstWord, wordsOf}
 use Rattle.theory.specs.Refusals.{textLimit, isUnended}
 use Rattle.theory.proofs.TextLaws.{wordLength-le, length-firstWord, firstWord-at, words-count}
 use Rattle.theory.proofs.StartLaws.{writtenLength, written-letters}
