@@ -4,7 +4,7 @@
 --   table-numbers, head-sized   : a table's file is its head and its cells
 --   savable                     : the sizes of a table that is not refused
 -- Assumes nothing.
-use mathlib.Core.Path.{_≡_, refl, sym, _∙_, ap, subst}
+use mathlib.Core.Path.{_≡_, refl, sym, _∙_, ap}
 use mathlib.Core.Bool.{not}
 use mathlib.Core.Option.{none}
 use mathlib.Core.List.{List, [], _∷_, _++_, map}
@@ -22,9 +22,8 @@ use Rattle.theory.proofs.RefusalLaws.{alphabet-in}
 use Rattle.theory.proofs.TableRefusalLaws.{else-none, unrefused, lent-in}
 use Rattle.numbers.specs.Splices.{WrittenAt}
 use Rattle.numbers.proofs.NumberLaws.{length-small}
-use Rattle.numbers.proofs.SpliceLaws.{length-spliced, written-then}
 use Rattle.saves.specs.Runs.{cellNumbers, Savable}
-use Rattle.saves.proofs.RunLaws.{numbers-append, numbers-few, numbers-more, numbers-none}
+use Rattle.saves.proofs.RunLaws.{numbers-append, numbers-few, numbers-more, numbers-none, front-room, back-room, both-written}
 
 -- ── A cell ──
 
@@ -101,20 +100,21 @@ savable n N t e =
 -- ── Head and cells, written ──
 
 module _ (n N count : ℕ) (t out : List ℕ) (e : count ≡ N * (2 * n)) (room : length (tableFile n N t) ≤ length out) where
-  lengths : length (numbersBytes (1 ∷ n ∷ N ∷ [])) + length (numbersBytes (cellNumbers count t)) ≡ length (tableFile n N t)
-  lengths = sym (length-append (numbersBytes (1 ∷ n ∷ N ∷ [])) (numbersBytes (cellNumbers count t))) ∙ ap length (table-numbers n N count t e)
+  abbrev head : List ℕ
+  head = numbersBytes (1 ∷ n ∷ N ∷ [])
 
-  pub head-room : length (numbersBytes (1 ∷ n ∷ N ∷ [])) ≤ length out
-  head-room = omega (arith, lengths, room)
+  abbrev cells : List ℕ
+  cells = numbersBytes (cellNumbers count t)
 
-  pub cells-room : {at : ℕ} {mid : List ℕ} → WrittenAt 0 (numbersBytes (1 ∷ n ∷ N ∷ [])) out at mid
-      → at + length (numbersBytes (cellNumbers count t)) ≤ length mid
-  cells-room w = omega (arith, lengths, room, w .next, ap length (w .cells), length-spliced 0 (numbersBytes (1 ∷ n ∷ N ∷ [])) out (omega (arith, head-room)))
+  pub head-room : length head ≤ length out
+  head-room = omega (arith, front-room 0 head cells (tableFile n N t) out (table-numbers n N count t e) (omega (arith, room)))
 
-  pub table-made : {at end : ℕ} {mid after : List ℕ} → WrittenAt 0 (numbersBytes (1 ∷ n ∷ N ∷ [])) out at mid
-      → WrittenAt at (numbersBytes (cellNumbers count t)) mid end after → WrittenAt 0 (tableFile n N t) out end after
-  table-made {at} {end} {mid} {after} a b =
-      subst (λ l. WrittenAt 0 l out end after) (table-numbers n N count t e) (written-then (omega (arith, head-room)) a b)
+  pub cells-room : {at : ℕ} {mid : List ℕ} → WrittenAt 0 head out at mid → at + length cells ≤ length mid
+  cells-room w = back-room 0 head cells (tableFile n N t) out (table-numbers n N count t e) (omega (arith, room)) w
+
+  pub table-made : {at end : ℕ} {mid after : List ℕ} → WrittenAt 0 head out at mid → WrittenAt at cells mid end after
+      → WrittenAt 0 (tableFile n N t) out end after
+  table-made a b = both-written 0 head cells (tableFile n N t) out (table-numbers n N count t e) (omega (arith, room)) a b
 
 pub size-few : (count : ℕ) (t : List ℕ) → length (numbersBytes (cellNumbers count t)) ≤ 5 * count
 size-few count t = omega (arith, numbers-few (cellNumbers count t), cells-length count t)

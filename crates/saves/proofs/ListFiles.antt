@@ -1,15 +1,27 @@
 -- Two lists with one file are the same (theory's `listFile`).
 --   split-one     : two runs of as many numbers, each before other bytes
 --   list-file-one : two lists whose letters and lengths are numbers and that have one file are the same
+--   saved-lists-one : two lists that are not refused and have one file have the same n and the same words
+--   list-file-here : abA, the empty word and b with n = 2 are 02 02 03 03 00 02 01 00 01 02; and the empty list is 02 02 00
 -- Assumes nothing.
 use mathlib.Core.Path.{_≡_, refl, sym, _∙_, ap}
+use mathlib.Core.Logic.{by-cases}
+use mathlib.Core.Bool.{true}
+use mathlib.Core.Option.{none}
 use mathlib.Core.List.{List, [], _∷_, _++_, append-assoc}
-use Prim.Native.Nat.{ℕ, _≤_}
+use Prim.Native.Nat.{ℕ, suc, _≤_}
+use native.Mathlib.Decide.{ℕ-discrete}
 use native.Mathlib.Omega.{arith}
 use lib.ListN.{length}
-use Rattle.theory.specs.Files.{numberLimit, numberBytes, numbersBytes, wordNumbers, listFile}
+use borrow.Author.Tests.{eq-eqb, ne-eqb}
+use Rattle.theory.specs.Files.{numberLimit, groups, numberBytes, numbersBytes, wordNumbers, listFile}
+use Rattle.theory.specs.Letters.{letterBytes, placeIn, letterOf, lineEnd, onFirst, wordsOf}
+use Rattle.theory.specs.Refusals.{textRefusal}
+use Rattle.theory.specs.Examples.{bytesFrom, bytes}
 use Rattle.numbers.proofs.Numbers.{number-one, AllFit}
 use Rattle.saves.proofs.RunLaws.{numbers-append}
+use Rattle.saves.proofs.WordLaws.{letter-fits}
+use Rattle.saves.proofs.ListLaws.{savable-list, count-fits}
 
 pub split-one : (xs ys l m : List ℕ) → AllFit xs → AllFit ys → length xs ≡ length ys → numbersBytes xs ++ l ≡ numbersBytes ys ++ m
     → (xs ≡ ys) × (l ≡ m)
@@ -53,3 +65,48 @@ list-file-one n m ws us hn hm lw lu fw fu f =
     let b = number-one n m (numbersBytes (length ws ∷ wordNumbers ws)) (numbersBytes (length us ∷ wordNumbers us)) (omega arith) (omega arith) (a .1) in
     let c = number-one (length ws) (length us) (numbersBytes (wordNumbers ws)) (numbersBytes (wordNumbers us)) lw lu (b .1) in
     (b .0, words-one ws us fw fu (c .0) (c .1))
+
+-- ── Lists that are not refused ──
+
+-- every word has at most k letters, each a number
+abbrev Within : ℕ → List (List ℕ) → Type 0
+Within k [] = Unit {0}
+Within k (w ∷ ws) = (length w ≤ k) × AllFit w × Within k ws
+
+within-more : (k l : ℕ) (ws : List (List ℕ)) → k ≤ l → Within k ws → Within l ws
+within-more k l [] h f = _
+within-more k l (w ∷ ws) h f = (omega (arith, h, f .0), f .1, within-more k l ws h (f .2))
+
+first-within : (b k : ℕ) (ws : List (List ℕ)) → Within k ws → Within (suc k) (onFirst (letterOf b) ws)
+unfolding onFirst
+first-within b k [] f = (omega arith, (letter-fits b (letterOf b) refl, _), _)
+first-within b k (w ∷ ws) f =
+    (omega (arith, f .0), (letter-fits b (letterOf b) refl, f .1), within-more k (suc k) ws (omega arith) (f .2))
+
+words-within : (bs : List ℕ) → Within (length bs) (wordsOf bs)
+unfolding wordsOf
+words-within [] = _
+words-within (b ∷ bs) =
+    by-cases (ℕ-discrete b lineEnd)
+    (λ e. rw (eq-eqb b lineEnd e) (omega arith, _, within-more (length bs) (suc (length bs)) (wordsOf bs) (omega arith) (words-within bs)))
+    (λ e. rw (ne-eqb b lineEnd e) (first-within b (length bs) (wordsOf bs) (words-within bs)))
+
+within-fit : (k : ℕ) (ws : List (List ℕ)) → k ≤ numberLimit → Within k ws → WordsFit ws
+within-fit k [] h f = _
+within-fit k (w ∷ ws) h f = (omega (arith, h, f .0), f .1, within-fit k ws h (f .2))
+
+pub saved-lists-one : (n m : ℕ) (a b : List ℕ) → textRefusal n true a ≡ none → textRefusal m true b ≡ none
+    → listFile n (wordsOf a) ≡ listFile m (wordsOf b) → (n ≡ m) × (wordsOf a ≡ wordsOf b)
+saved-lists-one n m a b p q f =
+    let x = savable-list n a p in
+    let y = savable-list m b q in
+    list-file-one n m (wordsOf a) (wordsOf b) (x .0) (y .0) (count-fits a (x .1) refl) (count-fits b (y .1) refl)
+    (within-fit (length a) (wordsOf a) (omega (arith, x .1)) (words-within a))
+    (within-fit (length b) (wordsOf b) (omega (arith, y .1)) (words-within b)) f
+
+-- ── By computation ──
+
+pub list-file-here : (listFile 2 (wordsOf (bytes "abA\n\nb\n")) ≡ 2 ∷ 2 ∷ 3 ∷ 3 ∷ 0 ∷ 2 ∷ 1 ∷ 0 ∷ 1 ∷ 2 ∷ [])
+    × (listFile 2 (wordsOf []) ≡ 2 ∷ 2 ∷ 0 ∷ [])
+unfolding listFile wordNumbers numbersBytes numberBytes groups wordsOf onFirst letterOf placeIn letterBytes bytesFrom
+list-file-here = (refl, refl)

@@ -2,8 +2,9 @@
 --   numbers-append, numbers-few                 : the bytes of two runs; at most five a number
 --   Sizing, sized-first, sized-turn, sized-done : the size so far and the bytes of the rest are the size of the run
 --   Run, run-first, run-turn, run-done          : writing the rest from p on leaves what writing the run from `at` on does
+--   front-room, back-room, both-written         : some bytes, then others behind them
 -- Assumes nothing.
-use mathlib.Core.Path.{_≡_, refl, sym, _∙_, ap}
+use mathlib.Core.Path.{_≡_, refl, sym, _∙_, ap, subst}
 use mathlib.Core.List.{List, [], _∷_, _++_, append-assoc}
 use Prim.Native.Nat.{ℕ, suc, _+_, _*_, _≤_, _<_}
 use native.Mathlib.Omega.{arith}
@@ -11,7 +12,7 @@ use lib.ListN.{length, length-append}
 use Rattle.theory.specs.Files.{numberBytes, numbersBytes}
 use Rattle.numbers.specs.Splices.{spliced, WrittenAt}
 use Rattle.numbers.proofs.NumberLaws.{number-fits}
-use Rattle.numbers.proofs.SpliceLaws.{spliced-none, spliced-append, length-spliced}
+use Rattle.numbers.proofs.SpliceLaws.{spliced-none, spliced-append, length-spliced, written-then}
 
 pub numbers-append : (xs ys : List ℕ) → numbersBytes (xs ++ ys) ≡ numbersBytes xs ++ numbersBytes ys
 unfolding numbersBytes
@@ -118,3 +119,18 @@ module _ {xs rest : List ℕ} {at : ℕ} {old out : List ℕ} {p : ℕ} (h : Run
 -- from the first place on
 pub run-start : (xs out : List ℕ) → length (numbersBytes xs) ≤ length out → Run xs xs 0 out out 0
 run-start xs out h = run-first xs 0 out (omega arith)
+
+-- ── Two parts ──
+
+module _ (at : ℕ) (front back whole out : List ℕ) (e : front ++ back ≡ whole) (room : at + length whole ≤ length out) where
+  lengths : length front + length back ≡ length whole
+  lengths = sym (length-append front back) ∙ ap length e
+
+  pub front-room : at + length front ≤ length out
+  front-room = omega (arith, lengths, room)
+
+  pub back-room : {p : ℕ} {mid : List ℕ} → WrittenAt at front out p mid → p + length back ≤ length mid
+  back-room w = omega (arith, lengths, room, w .next, ap length (w .cells), length-spliced at front out front-room)
+
+  pub both-written : {p q : ℕ} {mid after : List ℕ} → WrittenAt at front out p mid → WrittenAt p back mid q after → WrittenAt at whole out q after
+  both-written {p} {q} {mid} {after} a b = subst (λ l. WrittenAt at l out q after) e (written-then front-room a b)

@@ -1,19 +1,25 @@
 -- What saving says, on plain values: a refusal of what is saved, 9, or the file (`specs/Saves`).
 --   early-refused, short-refused, all-written : the three outcomes, for any file
 --   check-refused, check-fine                 : of a table, by what `check` says
+--   scan-refused, scan-fine                   : of a list, by what `scan` says
 -- Assumes nothing.
 use mathlib.Core.Path.{_≡_, refl, sym, _∙_, ap}
+use mathlib.Core.Bool.{true}
 use mathlib.Core.Option.{Option, none, some}
 use mathlib.Core.List.{List, _++_}
 use Prim.Native.Nat.{ℕ, _+_, _≤_, _<_}
 use native.Mathlib.Omega.{arith}
 use lib.ListN.{length, take, drop}
 use borrow.Author.Tests.{lt-ltb, le-ltb}
-use Rattle.theory.specs.Files.{tableFile}
-use Rattle.theory.specs.Refusals.{Refusal as FirstCause, orElse}
+use Rattle.theory.specs.Files.{tableFile, listFile}
+use Rattle.theory.specs.Letters.{wordsOf}
+use Rattle.theory.specs.Refusals.{Refusal as FirstCause, orElse, textRefusal}
 use Rattle.theory.specs.TableRefusals.{checkRefusal}
 use Rattle.refusals.specs.declared.Refusal.{Refusal}
 use Rattle.refusals.specs.Given.{givenAs, given}
+use Rattle.lists.specs.declared.Scanned.{Scanned}
+use Rattle.lists.specs.declared.Scanned.the-variants.{Fine, Refused as ScanRefused}
+use Rattle.lists.specs.Scans.{scannedAs}
 use Rattle.tables.specs.declared.Checked.{Checked}
 use Rattle.tables.specs.declared.Checked.the-variants.{Refused as CheckRefused, Counted}
 use Rattle.tables.specs.declared.Figures.{Figures}
@@ -21,7 +27,7 @@ use Rattle.tables.specs.Checks.{checkedFor, checkedAs}
 use Rattle.numbers.specs.Splices.{spliced, WrittenAt}
 use Rattle.saves.specs.declared.Saved.{Saved}
 use Rattle.saves.specs.declared.Saved.the-variants.{Refused, Written}
-use Rattle.saves.specs.Saves.{shortRefusal, savedFor, outFor, SaveOutcome, saveTableRefusal, SaveTableOutcome}
+use Rattle.saves.specs.Saves.{shortRefusal, savedFor, outFor, SaveOutcome, saveTableRefusal, SaveTableOutcome, saveListRefusal, SaveListOutcome}
 
 -- ── Any file ──
 
@@ -84,5 +90,34 @@ unfolding checkedAs
 check-fine n N t {c} {f} e g = go (checkRefusal n N t) (sym g ∙ e)
   where
     go : (o : Option FirstCause) → Counted f ≡ checkedFor n N t o → o ≡ none
+    go none z = refl
+    go (some d) z = absurd (let y : _≡_ {A = ℕ} 0 1 = cc in omega arith)
+
+-- ── Lists ──
+
+module _ (n : ℕ) (list out : List ℕ) where
+  pub list-short : {needed : ℕ} {r : Refusal} → textRefusal n true list ≡ none → needed ≡ length (listFile n (wordsOf list)) → length out < needed
+      → r ≡ givenAs 9 needed → SaveListOutcome n list out (Refused r) out
+  unfolding saveListRefusal
+  list-short e is h g = short-refused (listFile n (wordsOf list)) out e is h g
+
+  pub list-written : {needed end : ℕ} {after : List ℕ} → textRefusal n true list ≡ none → needed ≡ length (listFile n (wordsOf list))
+      → needed ≤ length out → WrittenAt 0 (listFile n (wordsOf list)) out end after → SaveListOutcome n list out (Written end) after
+  unfolding saveListRefusal
+  list-written e is h w = all-written (listFile n (wordsOf list)) out e is h w
+
+  pub scan-refused : {s : Scanned} {r : Refusal} → s ≡ scannedAs (textRefusal n true list) → s ≡ ScanRefused r
+      → SaveListOutcome n list out (Refused r) out
+  unfolding saveListRefusal
+  scan-refused {s} {r} e f = go (textRefusal n true list) refl (sym f ∙ e)
+    where
+      go : (o : Option FirstCause) → textRefusal n true list ≡ o → ScanRefused r ≡ scannedAs o → SaveListOutcome n list out (Refused r) out
+      go none q z = absurd (let y : _≡_ {A = ℕ} 0 1 = cc in omega arith)
+      go (some d) q z = early-refused (listFile n (wordsOf list)) out d q cc
+
+pub scan-fine : (n : ℕ) (list : List ℕ) {s : Scanned} → s ≡ scannedAs (textRefusal n true list) → s ≡ Fine → textRefusal n true list ≡ none
+scan-fine n list {s} e f = go (textRefusal n true list) (sym f ∙ e)
+  where
+    go : (o : Option FirstCause) → Fine ≡ scannedAs o → o ≡ none
     go none z = refl
     go (some d) z = absurd (let y : _≡_ {A = ℕ} 0 1 = cc in omega arith)

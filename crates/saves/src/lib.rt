@@ -1,14 +1,18 @@
-// Saving: a canonical table as a file of kind 1.
+// Saving: a canonical table as a file of kind 1, a list as a file of kind 2.
 ghost use mathlib.Core.Path.{_≡_};
+ghost use mathlib.Core.Bool.{true};
 ghost use mathlib.Core.Option.{none};
 ghost use mathlib.Core.List.{[], _∷_};
 ghost use Prim.Native.Nat.{_+_, _*_, _≤_};
 ghost use lib.ListN.{length};
-ghost use Rattle.theory.specs.Files.{cellNumber, numbersBytes, numberLimit, tableFile};
+ghost use Rattle.theory.specs.Files.{cellNumber, numbersBytes, numberLimit, tableFile, wordNumbers, listFile};
+ghost use Rattle.theory.specs.Letters.{wordLength, firstWord, wordsOf};
+ghost use Rattle.theory.specs.Refusals.{textLimit, textRefusal};
 ghost use Rattle.theory.specs.TableRefusals.{checkRefusal};
 ghost use Rattle.numbers.specs.Splices.{WrittenAt};
-ghost use Rattle.saves.specs.Runs.{cellNumbers, Savable};
-ghost use Rattle.saves.specs.Saves.{SaveTableOutcome};
+ghost use Rattle.saves.specs.Runs.{cellNumbers, Savable, wordRun, SavableList};
+ghost use Rattle.saves.specs.Saves.{SaveTableOutcome, SaveListOutcome};
+use lists::Scanned;
 use refusals::Refusal;
 use tables::Checked;
 use tables::Subgroup;
@@ -126,5 +130,101 @@ pub fn save_table(s: Subgroup, table: &[u32], out: &mut [u8]) -> Saved
     match tables::check(s, table) {
         Checked::Refused(r) => Saved::Refused(r),
         Checked::Counted(_) => save_checked(s, table, out),
+    }
+}
+
+// The bytes that the words of a list take: each its length's, and one for each letter.
+fn words_size(list: &[u8]) -> usize
+    requires { ⌜ length (now list) ≤ textLimit ⌝ }
+    ensures size { λ r. ⌜ r ≡ length (numbersBytes (wordNumbers (wordsOf (now (list .entry))))) ⌝ }
+{
+    let mut size: usize = 0;
+    let mut at: usize = 0;
+    while at < list.len() {
+        let read = words::word_length(&list[at..]);
+        size += numbers::number_size(read as u64) + read;
+        at = lists::next_start(list, at);
+    }
+    size
+}
+
+// Writes the letters of the word at the start of `part` from place `at` on, and answers the place behind them.
+fn write_letters(part: &[u8], read: usize, out: &mut [u8], at: usize) -> usize
+    requires { ⌜ (read ≡ wordLength (now part)) × (at + length (numbersBytes (firstWord (now part))) ≤ length (now out)) ⌝ }
+    ensures written { λ r. ⌜ WrittenAt at (numbersBytes (firstWord (now (part .entry)))) (now (out .entry)) r (now (out .exit)) ⌝ }
+{
+    let mut p = at;
+    let mut i: usize = 0;
+    while i < read {
+        p = numbers::write_number(out, p, letters::letter_of(part[i]) as u64);
+        i += 1;
+    }
+    p
+}
+
+// Writes the word at the start of `part` from place `at` on, its length and then its letters, and answers the place behind it.
+fn write_word(part: &[u8], out: &mut [u8], at: usize) -> usize
+    requires { ⌜ (length (now part) ≤ textLimit) × (at + length (numbersBytes (wordRun (firstWord (now part)))) ≤ length (now out)) ⌝ }
+    ensures written { λ r. ⌜ WrittenAt at (numbersBytes (wordRun (firstWord (now (part .entry))))) (now (out .entry)) r (now (out .exit)) ⌝ }
+{
+    let read = words::word_length(part);
+    let first = numbers::write_number(out, at, read as u64);
+    write_letters(part, read, out, first)
+}
+
+// Writes the words of a list from place `at` on, each where it starts in the list, and answers the place behind them.
+fn write_words(list: &[u8], out: &mut [u8], at: usize) -> usize
+    requires { ⌜ (length (now list) ≤ textLimit) × (at + length (numbersBytes (wordNumbers (wordsOf (now list)))) ≤ length (now out)) ⌝ }
+    ensures written { λ r. ⌜ WrittenAt at (numbersBytes (wordNumbers (wordsOf (now (list .entry))))) (now (out .entry)) r (now (out .exit)) ⌝ }
+{
+    let mut p = at;
+    let mut i: usize = 0;
+    while i < list.len() {
+        p = write_word(&list[i..], out, p);
+        i = lists::next_start(list, i);
+    }
+    p
+}
+
+// The bytes of a list's file.
+fn list_size(n: u64, list: &[u8]) -> usize
+    requires { ⌜ SavableList n (length (now list)) ⌝ }
+    ensures size { λ r. ⌜ r ≡ length (listFile n (wordsOf (now (list .entry)))) ⌝ }
+{
+    let counts = lists::count(list);
+    let head = head_size(2, n, counts.words as u64);
+    head + words_size(list)
+}
+
+// Writes a list's file.
+fn write_list(n: u64, list: &[u8], out: &mut [u8]) -> usize
+    requires { ⌜ SavableList n (length (now list)) × (length (listFile n (wordsOf (now list))) ≤ length (now out)) ⌝ }
+    ensures written { λ r. ⌜ WrittenAt 0 (listFile n (wordsOf (now (list .entry)))) (now (out .entry)) r (now (out .exit)) ⌝ }
+{
+    let counts = lists::count(list);
+    let at = write_head(out, 2, n, counts.words as u64);
+    write_words(list, out, at)
+}
+
+// Saves a list that no refusal meets, or refuses: 9. The length is known before anything is written.
+fn save_fine(n: u64, list: &[u8], out: &mut [u8]) -> Saved
+    requires { ⌜ textRefusal n true (now list) ≡ none ⌝ }
+    ensures outcome { λ r. ⌜ SaveListOutcome n (now (list .entry)) (now (out .entry)) r (now (out .exit)) ⌝ }
+{
+    let needed = list_size(n, list);
+    if out.len() < needed {
+        return Saved::Refused(refusals::refuse(9, needed as u64));
+    }
+    let end = write_list(n, list, out);
+    Saved::Written(end as u64)
+}
+
+// Saves a list text as a file of kind 2, or refuses: 1, 2, 3 or 4, 5, 9.
+pub fn save_list(n: u64, list: &[u8], out: &mut [u8]) -> Saved
+    ensures outcome { λ r. ⌜ SaveListOutcome n (now (list .entry)) (now (out .entry)) r (now (out .exit)) ⌝ }
+{
+    match lists::scan(n, list, true) {
+        Scanned::Refused(r) => Saved::Refused(r),
+        Scanned::Fine => save_fine(n, list, out),
     }
 }
