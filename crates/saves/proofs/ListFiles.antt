@@ -17,7 +17,7 @@ use borrow.Author.Tests.{eq-eqb, ne-eqb}
 use Rattle.theory.specs.Files.{numberLimit, groups, numberBytes, numbersBytes, wordNumbers, listFile}
 use Rattle.theory.specs.Letters.{letterBytes, placeIn, letterOf, lineEnd, onFirst, wordsOf}
 use Rattle.theory.specs.Refusals.{textRefusal}
-use Rattle.theory.specs.Examples.{bytesFrom, bytes}
+use Rattle.theory.specs.Texts.{bytesFrom, bytes}
 use Rattle.numbers.proofs.Numbers.{number-one, AllFit}
 use Rattle.saves.proofs.RunLaws.{numbers-append}
 use Rattle.saves.proofs.WordLaws.{letter-fits}
