@@ -3,6 +3,7 @@
 A call is its name, its bytes, its line as items, and how many lent items the line shows.
 """
 
+import struct
 from collections import namedtuple
 
 from .basis import basis, basis_words
@@ -16,6 +17,7 @@ from .tables import check, counts, equal, member
 from .words import MOST_BYTES, Refused, inverse, letter_count, list_text, refusal_of_list, spell, words_of
 
 BYTE_BEFORE = 77
+MANY_CELLS = 500
 BAD_POINTS = [0, 1048578, 2 ** 32, 2 ** 32 + 1, 2 ** 63, 2 ** 64 - 1]
 
 Table = namedtuple("Table", "n points cells")
@@ -30,7 +32,7 @@ def number(x, width):
 def table_bytes(table):
     """A table as the driver reads it."""
     return (number(table.n, 8) + number(table.points, 8) + number(len(table.cells), 4)
-            + b"".join(number(x, 4) for x in table.cells))
+            + struct.pack("<%dI" % len(table.cells), *table.cells))
 
 
 def answered(answer, *items):
@@ -124,11 +126,20 @@ def product(chance, n, words):
     return spell(padded(chance, n, letters, len(letters) + 6))
 
 
+def call_inside(chance, table, words):
+    """A member by construction: this program must find it inside."""
+    query = product(chance, table.n, words)
+    call = call_member(table, query, len(query) + chance.choice([0, 0, 3]))
+    assert call.items[0] == "yes", (table, query)
+    return call._replace(name="member by construction")
+
+
 def member_calls(chance, table, words):
     """Members by construction, random words, and queries that are refused."""
     n = table.n
-    for query in (product(chance, n, words), product(chance, n, words), spell(random_word(chance, n, 8)),
-                  spell(random_word(chance, n, 30)), b""):
+    yield call_inside(chance, table, words)
+    yield call_inside(chance, table, words)
+    for query in (spell(random_word(chance, n, 8)), spell(random_word(chance, n, 30)), b""):
         yield call_member(table, query, len(query) + chance.choice([0, 0, 3]))
     query = spell(random_word(chance, n, 8))
     yield call_member(table, spoilt(chance, n, query), 40)
@@ -183,7 +194,7 @@ def table_calls(chance, table, words):
 def random_list(chance):
     """n and a list."""
     n = chance.choice([1, 2, 2, 2, 3, 3, chance.randint(1, 26)])
-    return n, some_list(chance, n, *chance.choice([(4, 6), (4, 6), (8, 12), (16, 24)]))
+    return n, some_list(chance, n, *chance.choice([(4, 6), (4, 6), (4, 12), (8, 12), (16, 24), (6, 40)]))
 
 
 def fresh_calls(chance, lists):
@@ -205,11 +216,22 @@ def fresh_calls(chance, lists):
         last[n] = table
 
 
+def long_calls(chance, table, words):
+    """Each call once, on a table of many cells."""
+    text = list_text(basis_words(*table))
+    yield call_check(table)
+    yield call_inside(chance, table, words)
+    yield call_basis(table, 4 * table.points, len(text))
+    yield call_save(table, len(table_file(*table)))
+    yield call_folded(table, text)
+
+
 def stored_calls(chance):
     """Calls on the tables of the stored lists that are not refused."""
-    for n, text, *_ in stored_cases():
-        if not refusal_of_list(n, text):
-            yield from table_calls(chance, table_of(n, text), words_of(text)[:20])
+    for n, text in sorted({(n, text) for n, text, *_ in stored_cases() if not refusal_of_list(n, text)}):
+        table = table_of(n, text)
+        some = table_calls if len(table.cells) <= MANY_CELLS else long_calls
+        yield from some(chance, table, words_of(text)[:20])
 
 
 def shorter_calls(chance, pairs):
@@ -235,7 +257,7 @@ def shorter_calls(chance, pairs):
     yield call_shorter(2, b"a\n", long + b"\n")
 
 
-def refused_calls(chance):
+def refused_calls():
     """A query over the bytes, before and behind other causes."""
     table = table_of(2, b"ab\n")
     long = b"a" * (MOST_BYTES + 1)
@@ -248,7 +270,6 @@ def refused_calls(chance):
         bad = table._replace(n=n)
         yield from (call_check(bad), call_member(bad, b" ", 0), call_equal(bad, bad), call_equal(table, bad),
                     call_basis(bad, 0, 0), call_save(bad, 0))
-    assert chance
 
 
 # A chain of points by the first letter, with a loop of every other letter at each.

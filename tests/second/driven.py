@@ -27,7 +27,7 @@ MEMBERS = 100
 ASKS = 200
 BAD_N = [0, 27, 28, 256, 258, 65536, 2 ** 32, 2 ** 32 + 1, 2 ** 40, 2 ** 63, 2 ** 64 - 1]
 PAIRWISE_LETTERS = 300
-TABLES = 150
+TABLES = 500
 PAIRS = 400
 MOST_POINTS = 1048577
 
@@ -261,7 +261,7 @@ def main(driver):
     tallies = [run(driver, "folds", [*good_folds(chance), *bad_folds(chance)], fold_line), all_inside(inside),
                run(driver, "asks", inside + [*asks(chance)], ask_line), run_stored(driver),
                run_calls(driver, "calls", [*fresh_calls(chance, TABLES), *stored_calls(chance),
-                                           *shorter_calls(chance, PAIRS), *refused_calls(chance)]),
+                                           *shorter_calls(chance, PAIRS), *refused_calls()]),
                run_chains(driver)]
     passed, failed = (sum(part) for part in zip(*tallies))
     print("%d passed, %d failed" % (passed, failed))
