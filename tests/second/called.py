@@ -18,6 +18,11 @@ from .words import MOST_BYTES, Refused, inverse, letter_count, list_text, refusa
 
 BYTE_BEFORE = 77
 MANY_CELLS = 500
+SMALL_GRAPHS = [
+    (2, b"", [b"", b"a"]), (2, b"aA\n", [b"", b"a"]), (2, b"bb\nbbb\n", [b"b"]), (2, b"ab\nab\n", [b"ab"]),
+    (2, b"ab\n", [b"aBbb"]), (2, b"abA\n", [b"b"]), (1, b"aaa\n", [b"AAA", b"aa"]),
+    (2, b"aaB\nbAba\nabA\naaaaaa\n", [b"aba", b"a", b"aA", b"bAba"]), (1, b"a" * 65537 + b"\n", [b"a"]),
+]
 BAD_POINTS = [0, 1048578, 2 ** 32, 2 ** 32 + 1, 2 ** 63, 2 ** 64 - 1]
 
 Table = namedtuple("Table", "n points cells")
@@ -214,6 +219,14 @@ def fresh_calls(chance, lists):
         yield call_equal(table, table_of(n, list_text(mixed)))
         yield call_equal(table, table._replace(n=n % 26 + 1))
         last[n] = table
+
+
+def small_graph_calls(chance):
+    """The small graphs of document 01 with their queries."""
+    for n, text, queries in SMALL_GRAPHS:
+        table = table_of(n, text)
+        yield from table_calls(chance, table, words_of(text)) if len(table.cells) <= MANY_CELLS else ()
+        yield from (call_member(table, query, len(query)) for query in queries)
 
 
 def long_calls(chance, table, words):

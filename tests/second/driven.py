@@ -13,7 +13,7 @@ import sys
 sys.path.insert(0, os.path.dirname(os.path.dirname(os.path.abspath(__file__))))
 
 from second.called import (chain_call, fresh_calls, refused_calls, same_chain, shorter_calls,  # noqa: E402
-                           stored_calls)
+                           small_graph_calls, stored_calls)
 from second.calls import ask, fold  # noqa: E402
 from second.corpus import random_word, spoilt  # noqa: E402
 from second.folding import fold_words, fold_words_quickly  # noqa: E402
@@ -260,8 +260,9 @@ def main(driver):
     inside = [*members(chance)]
     tallies = [run(driver, "folds", [*good_folds(chance), *bad_folds(chance)], fold_line), all_inside(inside),
                run(driver, "asks", inside + [*asks(chance)], ask_line), run_stored(driver),
-               run_calls(driver, "calls", [*fresh_calls(chance, TABLES), *stored_calls(chance),
-                                           *shorter_calls(chance, PAIRS), *refused_calls()]),
+               run_calls(driver, "calls", [*small_graph_calls(chance), *fresh_calls(chance, TABLES),
+                                           *stored_calls(chance), *shorter_calls(chance, PAIRS),
+                                           *refused_calls()]),
                run_chains(driver)]
     passed, failed = (sum(part) for part in zip(*tallies))
     print("%d passed, %d failed" % (passed, failed))
