@@ -1,6 +1,7 @@
 //! The proved library, called through its C interface.
+#![allow(dead_code)] // the benchmark does not call all of it
 
-use crate::replies::{AskReply, FoldReply};
+use crate::replies::{CheckReply, FoldReply, PartReply, WrittenReply, YesReply};
 
 extern "C" {
     fn subgroups_fold(
@@ -10,12 +11,32 @@ extern "C" {
     fn subgroups_ask(
         n: u64, list: *const u8, list_len: usize, query: *const u8, query_len: usize,
         table: *mut u32, table_len: usize, work: *mut u32, work_len: usize,
-    ) -> AskReply;
+    ) -> YesReply;
+    fn subgroups_check(n: u64, points: u64, table: *const u32, table_len: usize) -> CheckReply;
+    fn subgroups_member(
+        n: u64, points: u64, table: *const u32, table_len: usize,
+        query: *const u8, query_len: usize, work: *mut u32, work_len: usize,
+    ) -> YesReply;
+    fn subgroups_equal(
+        n: u64, points: u64, table: *const u32, table_len: usize,
+        other_n: u64, other_points: u64, other: *const u32, other_len: usize,
+    ) -> YesReply;
+    fn subgroups_basis(
+        n: u64, points: u64, table: *const u32, table_len: usize,
+        work: *mut u32, work_len: usize, out: *mut u8, out_len: usize,
+    ) -> WrittenReply;
+    fn subgroups_save_table(
+        n: u64, points: u64, table: *const u32, table_len: usize, out: *mut u8, out_len: usize,
+    ) -> WrittenReply;
+    fn subgroups_shorter(
+        n: u64, first: *const u8, first_len: usize, second: *const u8, second_len: usize,
+    ) -> PartReply;
 }
+
+// SAFETY, of every call below: the pointers and lengths are those of live slices that do not overlap.
 
 /// Folds a list into the lent table.
 pub fn fold(n: u64, list: &[u8], table: &mut [u32], work: &mut [u32]) -> FoldReply {
-    // SAFETY: the pointers and lengths are those of live slices that do not overlap.
     unsafe {
         subgroups_fold(
             n, list.as_ptr(), list.len(),
@@ -25,13 +46,60 @@ pub fn fold(n: u64, list: &[u8], table: &mut [u32], work: &mut [u32]) -> FoldRep
 }
 
 /// Folds a list and answers one query.
-#[allow(dead_code)] // the benchmark folds only
-pub fn ask(n: u64, list: &[u8], query: &[u8], table: &mut [u32], work: &mut [u32]) -> AskReply {
-    // SAFETY: as above.
+pub fn ask(n: u64, list: &[u8], query: &[u8], table: &mut [u32], work: &mut [u32]) -> YesReply {
     unsafe {
         subgroups_ask(
             n, list.as_ptr(), list.len(), query.as_ptr(), query.len(),
             table.as_mut_ptr(), table.len(), work.as_mut_ptr(), work.len(),
         )
+    }
+}
+
+/// Counts edges, rank and index of a lent table.
+pub fn check(n: u64, points: u64, table: &[u32]) -> CheckReply {
+    unsafe { subgroups_check(n, points, table.as_ptr(), table.len()) }
+}
+
+/// Answers one query on a lent table.
+pub fn member(n: u64, points: u64, table: &[u32], query: &[u8], work: &mut [u32]) -> YesReply {
+    unsafe {
+        subgroups_member(
+            n, points, table.as_ptr(), table.len(),
+            query.as_ptr(), query.len(), work.as_mut_ptr(), work.len(),
+        )
+    }
+}
+
+/// Compares two lent tables.
+pub fn equal(n: u64, points: u64, table: &[u32], other_n: u64, other_points: u64, other: &[u32]) -> YesReply {
+    unsafe {
+        subgroups_equal(
+            n, points, table.as_ptr(), table.len(),
+            other_n, other_points, other.as_ptr(), other.len(),
+        )
+    }
+}
+
+/// Writes the basis of a lent table.
+pub fn basis(n: u64, points: u64, table: &[u32], work: &mut [u32], out: &mut [u8]) -> WrittenReply {
+    unsafe {
+        subgroups_basis(
+            n, points, table.as_ptr(), table.len(),
+            work.as_mut_ptr(), work.len(), out.as_mut_ptr(), out.len(),
+        )
+    }
+}
+
+/// Saves a lent table.
+pub fn save_table(n: u64, points: u64, table: &[u32], out: &mut [u8]) -> WrittenReply {
+    unsafe {
+        subgroups_save_table(n, points, table.as_ptr(), table.len(), out.as_mut_ptr(), out.len())
+    }
+}
+
+/// Says which of two lists is the shorter.
+pub fn shorter(n: u64, first: &[u8], second: &[u8]) -> PartReply {
+    unsafe {
+        subgroups_shorter(n, first.as_ptr(), first.len(), second.as_ptr(), second.len())
     }
 }

@@ -1,5 +1,6 @@
 //! Folds lists of many shapes by the library and by plain Rust, in one run on warm buffers, and prints a table.
-//! Both must leave the same figures and the same cells. Built with --cfg plain it measures plain Rust alone.
+//! Both must leave the same figures and the same cells. Then calls on lent tables (tables.rs). An argument, 'folds'
+//! or 'tables', chooses one part. Built with --cfg plain it measures plain Rust alone.
 
 use std::cell::RefCell;
 use std::time::{Duration, Instant};
@@ -9,9 +10,10 @@ mod library;
 mod plain;
 mod replies;
 mod shapes;
+mod tables;
 
 use replies::FoldReply;
-use shapes::{Shape, SHAPES};
+use shapes::{Shape, ABSENT, SHAPES};
 
 type Fold = fn(u64, &[u8], &mut [u32], &mut [u32]) -> FoldReply;
 
@@ -22,7 +24,6 @@ const LIBRARY: Option<Fold> = None;
 
 const SIZES: [usize; 3] = [10_000, 100_000, 1_000_000];
 const ALPHABETS: [usize; 3] = [2, 3, 26];
-const ABSENT: u32 = u32::MAX;
 
 /// Buffers to lend.
 struct Lent {
@@ -96,6 +97,18 @@ fn shown(value: Option<f64>, digits: usize) -> String {
 }
 
 fn main() {
+    let part = std::env::args().nth(1);
+    let chosen = |name| part.as_deref().is_none_or(|one| one == name);
+    if chosen("folds") {
+        folds();
+    }
+    if chosen("tables") {
+        tables::print();
+    }
+}
+
+/// Prints the rows of every shape and size.
+fn folds() {
     match LIBRARY {
         Some(_) => println!("The last two columns are the library's."),
         None => println!("The library is not built: plain Rust alone, also in the last two columns."),

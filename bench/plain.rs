@@ -4,7 +4,12 @@
 //!   what collides is united, and drained before the next word; points are then numbered by exchanging names.
 //! Between two steps the table is an inverse graph: y leads from v to u exactly if y ^ 1 leads from u to v.
 
-use crate::replies::{AskReply, FoldReply};
+use crate::replies::{FoldReply, YesReply};
+
+#[path = "plain_tables.rs"]
+mod tables;
+#[allow(unused_imports)] // the benchmark does not call all of it
+pub use tables::{basis, check, equal, member, save_table, shorter};
 
 const ABSENT: u32 = u32::MAX;
 const LINE_END: u8 = 10;
@@ -317,15 +322,15 @@ fn leads_back(width: usize, query: &[u8], table: &[u32], cells: &mut [u32]) -> b
 }
 
 /// Folds a list and answers one query.
-#[allow(dead_code)] // the benchmark folds only
-pub fn ask(n: u64, list: &[u8], query: &[u8], table: &mut [u32], work: &mut [u32]) -> AskReply {
+#[allow(dead_code)] // the benchmark does not ask
+pub fn ask(n: u64, list: &[u8], query: &[u8], table: &mut [u32], work: &mut [u32]) -> YesReply {
     match room_of(n, list, query, table, work) {
-        Err(Refused(number, place)) => AskReply { number, place, inside: 0 },
+        Err(Refused(number, place)) => YesReply { number, place, yes: 0 },
         Ok((rows, needed)) => {
             folded(n, list, rows, table, work);
-            let inside = leads_back(2 * n as usize, query, table, work) as u64;
+            let yes = leads_back(2 * n as usize, query, table, work) as u64;
             work[..needed].fill(0);
-            AskReply { number: 0, place: 0, inside }
+            YesReply { number: 0, place: 0, yes }
         }
     }
 }

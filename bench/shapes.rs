@@ -1,5 +1,8 @@
 //! Lists to measure on: each shape makes a list of about so many letters over n generators.
 
+/// The cell of a letter that leads nowhere.
+pub const ABSENT: u32 = u32::MAX;
+
 /// A list has at most so many bytes.
 const MOST_BYTES: usize = 1_048_576;
 
@@ -87,7 +90,7 @@ impl List {
     }
 }
 
-fn random_words(n: usize, letters: usize, length: usize) -> Vec<u8> {
+pub fn random_words(n: usize, letters: usize, length: usize) -> Vec<u8> {
     let (mut chance, mut list) = (SEED, List::new(letters));
     while list.add(&chance.word(n, length)) {}
     list.text
@@ -162,8 +165,8 @@ fn loops(n: usize, letters: usize) -> Vec<u8> {
     }
 }
 
-/// For each point and generator: path to the point, letter, inverse of the path to where it leads.
-fn loops_of(n: usize, points: usize) -> Vec<Vec<u8>> {
+/// A random action on points: for each letter where it takes each point.
+fn moves_of(n: usize, points: usize) -> Vec<Vec<usize>> {
     let mut chance = SEED;
     let mut moves = vec![vec![0; points]; 2 * n];
     for i in 0..n {
@@ -172,6 +175,37 @@ fn loops_of(n: usize, points: usize) -> Vec<Vec<u8>> {
         to.iter().enumerate().for_each(|(p, &q)| moves[2 * i + 1][q] = p);
         moves[2 * i] = to;
     }
+    moves
+}
+
+/// The table of a random action: no cell is absent. Points that the base does not reach are left out.
+pub fn action(n: usize, points: usize) -> Vec<u32> {
+    let moves = moves_of(n, points);
+    let (mut number, mut order) = (vec![ABSENT; points], vec![0]);
+    number[0] = 0;
+    let mut at = 0;
+    while at < order.len() {
+        for to in &moves {
+            let q = to[order[at]];
+            if number[q] == ABSENT {
+                number[q] = order.len() as u32;
+                order.push(q);
+            }
+        }
+        at += 1;
+    }
+    order.iter().flat_map(|&p| moves.iter().map(move |to| to[p])).map(|q| number[q]).collect()
+}
+
+/// One reduced word of so many letters.
+pub fn long_word(n: usize, letters: usize) -> Vec<u8> {
+    let mut chance = SEED;
+    chance.word(n, letters)
+}
+
+/// For each point and generator: path to the point, letter, inverse of the path to where it leads.
+fn loops_of(n: usize, points: usize) -> Vec<Vec<u8>> {
+    let moves = moves_of(n, points);
     let mut paths: Vec<Option<Vec<u8>>> = vec![None; points];
     paths[0] = Some(Vec::new());
     let mut order = vec![0];

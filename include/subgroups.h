@@ -1,9 +1,10 @@
-/* The C interface of libsubgroups.a: folding a list of words, and asking one query of it.
+/* The C interface of libsubgroups.a: lists of words folded, tables asked, compared, given a basis and saved.
  *
  * n is the alphabet size, 1 to 26. A list is words over a..z and A..Z (a capital is the inverse), each ended by
- * byte 10. L is the number of its letters as written. The lent table needs (L + 1) * 2n cells, the lent work
- * 8 * (L + 1), and for a query no less than its length. A refusal changes no cell. Else the table holds the rows
- * of the folded graph and then SUBGROUPS_ABSENT, the needed work cells hold 0, and later cells are as they were.
+ * byte 10. L is the number of its letters as written. A query is letters alone. A table handed in is n, its points
+ * and its cells, 2n for each point; cells behind those are not looked at.
+ * Of each function: its refusals in their order, and what each leaves in the buffers. Where nothing is refused the
+ * needed work cells hold 0, an output changes in the part written alone, and all later cells are as they were.
  */
 #ifndef SUBGROUPS_H
 #define SUBGROUPS_H
@@ -20,38 +21,93 @@ extern "C" {
 
 /* Numbers of refusal, and what the place then tells. */
 enum {
-    SUBGROUPS_ALPHABET = 1, /* n not 1 to 26; 0 */
-    SUBGROUPS_BYTES = 2,    /* list or query over 1,048,576 bytes; 0 */
-    SUBGROUPS_BYTE = 3,     /* byte not a letter, nor, in a list, byte 10; its offset */
-    SUBGROUPS_LETTER = 4,   /* letter beyond n; its offset */
-    SUBGROUPS_UNENDED = 5,  /* list not ended by byte 10; its length */
-    SUBGROUPS_TABLE = 6,    /* table too short; 0 */
-    SUBGROUPS_WORK = 7      /* work too short; cells needed */
+    SUBGROUPS_ALPHABET = 1,  /* n not 1 to 26, or not the same of two tables; 0 */
+    SUBGROUPS_BYTES = 2,     /* list or query over 1,048,576 bytes; 0 */
+    SUBGROUPS_BYTE = 3,      /* byte not a letter, nor, in a list, byte 10; its offset */
+    SUBGROUPS_LETTER = 4,    /* letter beyond n; its offset */
+    SUBGROUPS_UNENDED = 5,   /* list not ended by byte 10; its length */
+    SUBGROUPS_TABLE = 6,     /* table too short, or points not 1 to 1,048,577; 0 */
+    SUBGROUPS_WORK = 7,      /* work too short; cells needed */
+    SUBGROUPS_CANONICAL = 8, /* table not canonical; its lowest faulty cell */
+    SUBGROUPS_OUTPUT = 9     /* output too short; length needed */
 };
 
-/* The answer to folding. Where it is refused, all but number and place are 0. */
+/* Every answer but one tells first a refusal: its number, 0 if there is none, and its place. Where it is refused,
+ * all else is 0; so is all that does not apply. */
+
+/* The answer to folding. */
 typedef struct {
-    uint64_t number, place;             /* of the refusal; number 0 if there is none */
+    uint64_t number, place;
     uint64_t points, edges, rank;       /* of the folded graph */
     uint64_t finite, index;             /* 1 and the index, or 0 and 0 where it is infinite */
     uint64_t start_points, start_edges; /* of the start graph */
     uint64_t merging, closing;          /* folds of each kind */
 } FoldReply;
 
-/* The answer to one query. */
+/* The answer to a question. */
 typedef struct {
-    uint64_t number, place; /* of the refusal; number 0 if there is none */
-    uint64_t inside;        /* 1 for a member, else 0 */
-} AskReply;
+    uint64_t number, place;
+    uint64_t yes; /* 1 for yes, 0 for no */
+} YesReply;
 
-/* Folds a list into the lent table. */
+/* The answer to checking a table. */
+typedef struct {
+    uint64_t number, place;
+    uint64_t edges, rank;   /* of the table */
+    uint64_t finite, index; /* 1 and the index, or 0 and 0 where it is infinite */
+} CheckReply;
+
+/* The answer to writing. */
+typedef struct {
+    uint64_t number, place;
+    uint64_t words, bytes; /* written; words are told of a basis alone */
+} WrittenReply;
+
+/* The answer to which of two lists is the shorter: no refusal. */
+typedef struct {
+    uint64_t which; /* 1 the first, 2 the second, 0 neither */
+    uint64_t bytes; /* of that list */
+} PartReply;
+
+/* Folds a list into a table of (L + 1) * 2n cells with 8 * (L + 1) of work; behind the rows stands SUBGROUPS_ABSENT.
+ * Refusals 1, 2, 3 or 4, 5, 6, 7: no cell changes. */
 FoldReply subgroups_fold(uint64_t n, const uint8_t *list, size_t list_len,
                          uint32_t *table, size_t table_len, uint32_t *work, size_t work_len);
 
-/* Folds a list into the lent table and says whether the query is a member. */
-AskReply subgroups_ask(uint64_t n, const uint8_t *list, size_t list_len,
+/* Folds a list and says whether a query is a member; work as for the list, and no less than the query's length.
+ * Refusals 1, 2, 3 or 4, 5, 6, 7, of each the list's before the query's: no cell changes. */
+YesReply subgroups_ask(uint64_t n, const uint8_t *list, size_t list_len,
                        const uint8_t *query, size_t query_len,
                        uint32_t *table, size_t table_len, uint32_t *work, size_t work_len);
+
+/* Counts edges, rank and index of a table.
+ * Refusals 1, 6, 8: there is no buffer to change. */
+CheckReply subgroups_check(uint64_t n, uint64_t points, const uint32_t *table, size_t table_len);
+
+/* Says whether a query is a member of a table's subgroup; work of the query's length.
+ * Refusals 1, 2, 3 or 4, 6, 7, 8: no cell changes. */
+YesReply subgroups_member(uint64_t n, uint64_t points, const uint32_t *table, size_t table_len,
+                          const uint8_t *query, size_t query_len, uint32_t *work, size_t work_len);
+
+/* Says whether two tables are equal: the same points and the same cells.
+ * Refusals 1, 6 of the first, 6 of the second, 8 of the first, 8 of the second: there is no buffer to change. */
+YesReply subgroups_equal(uint64_t n, uint64_t points, const uint32_t *table, size_t table_len,
+                         uint64_t other_n, uint64_t other_points, const uint32_t *other, size_t other_len);
+
+/* Writes the basis of a table's subgroup as a list; work of 4 * points cells.
+ * Refusals 1, 6, 7, 8: no cell and no byte changes. 9: the needed work cells are 0, and no byte changes. */
+WrittenReply subgroups_basis(uint64_t n, uint64_t points, const uint32_t *table, size_t table_len,
+                             uint32_t *work, size_t work_len, uint8_t *out, size_t out_len);
+
+/* Saves a table as a file of kind 1.
+ * Refusals 1, 6, 8, 9: no byte changes. */
+WrittenReply subgroups_save_table(uint64_t n, uint64_t points, const uint32_t *table, size_t table_len,
+                                  uint8_t *out, size_t out_len);
+
+/* Says which of two lists has fewer letters, the first on a tie; a list that is refused never comes before one that
+ * is not. Nothing is refused: where both lists are, or n is, the reply is 0 and 0. */
+PartReply subgroups_shorter(uint64_t n, const uint8_t *first, size_t first_len,
+                            const uint8_t *second, size_t second_len);
 
 #ifdef __cplusplus
 }

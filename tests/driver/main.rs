@@ -1,16 +1,24 @@
-//! Runs cases on the library (or, built with --cfg plain, on plain Rust), with guard cells around both buffers.
+//! Runs cases on the library (or, built with --cfg plain, on plain Rust), with guards around every lent buffer.
 //!
-//! driver stored | folds | asks   reads cases from standard input and prints a line for each.
+//! driver stored | folds | asks | calls | chain   reads cases from standard input and prints a line for each.
 //!
-//! A case is a head of little-endian numbers and then bytes: n (8 bytes), the lengths of list, table and work
-//! (4 each), for asks also that of the query (4); the list; the query. Lent cells hold 777 before the call.
-//! A line is the reply: 'refused NUMBER PLACE'; or POINTS EDGES RANK INDEX STARTPOINTS STARTEDGES MERGING
-//! CLOSING; or inside, outside. Then the cells of the lent table (stored: of at most 64), those of the lent
-//! work (not for stored), for stored the check numbers of table and work; and 'broken' if a guard cell changed.
+//! A case is little-endian numbers and then bytes; lengths have 4 bytes, n and points 8. Before the call lent cells
+//! hold 777 and lent bytes 77.
+//! stored, folds, asks: n, the lengths of list, table and work, for asks also that of the query; the list; the query.
+//! calls: a letter and what the call takes. A table is n, points, a length and its cells, 4 bytes each.
+//!   c table (check); m table, lengths of query and work, the query (member); e table, table (equal);
+//!   b table, lengths of work and output (basis); s table, length of output (save_table);
+//!   f table, length of output (the basis, folded); l n, two lengths, two lists (shorter).
+//! chain: n, points, length of output; the table is a chain with loops, made here.
+//! A line is the reply: 'refused NUMBER PLACE'; or the figures; or yes, no. Then the lent cells (stored: of a table
+//! of at most 64, and check numbers; chain: how many work cells, of one more than needed, are not 0), the lent
+//! bytes in hexadecimal after x; and 'broken' if a guard, or a buffer lent to be read, has changed.
 
 use std::fmt::Display;
 use std::io::{self, BufWriter, Read, Write};
 
+mod calls;
+mod lent;
 #[path = "../../bench/replies.rs"]
 mod replies;
 #[cfg(plain)]
@@ -20,36 +28,10 @@ mod engine;
 #[path = "../../bench/library.rs"]
 mod engine;
 
-use replies::{AskReply, FoldReply};
+use replies::FoldReply;
 
-const CELL_BEFORE: u32 = 777;
-const GUARD: u32 = 0x5EED_5EED;
-const GUARDS: usize = 16;
 const MOST_SHOWN: usize = 64;
 const CHECK_PRIME: u64 = 4_294_967_291;
-
-/// Cells that can be lent, between guard cells.
-struct Lent {
-    cells: Vec<u32>,
-}
-
-impl Lent {
-    fn new(length: usize) -> Lent {
-        let mut cells = vec![GUARD; GUARDS + length + GUARDS];
-        cells[GUARDS..GUARDS + length].fill(CELL_BEFORE);
-        Lent { cells }
-    }
-
-    fn part(&mut self) -> &mut [u32] {
-        let end = self.cells.len() - GUARDS;
-        &mut self.cells[GUARDS..end]
-    }
-
-    fn kept(&self) -> bool {
-        let end = self.cells.len() - GUARDS;
-        self.cells[..GUARDS].iter().chain(&self.cells[end..]).all(|&x| x == GUARD)
-    }
-}
 
 /// What is left of the standard input.
 struct Input<'a> {
@@ -113,25 +95,25 @@ fn folded(line: &mut Line, reply: FoldReply) {
     [reply.start_points, reply.start_edges, reply.merging, reply.closing].iter().for_each(|x| line.item(x));
 }
 
-fn answered(line: &mut Line, reply: AskReply) {
-    match (reply.number, reply.inside) {
-        (0, 0) => line.item("outside"),
-        (0, 1) => line.item("inside"),
-        (number, 0) => line.refusal(number, reply.place),
-        (number, inside) => line.item(format!("{number}:{inside}")),
+/// Runs the next case and gives its line.
+fn run(mode: &str, input: &mut Input) -> String {
+    match mode {
+        "calls" => calls::run(input),
+        "chain" => calls::chain(input),
+        _ => run_list(mode, input),
     }
 }
 
-/// Runs the next case and gives its line.
-fn run(mode: &str, input: &mut Input) -> String {
+/// Runs the next case of a list.
+fn run_list(mode: &str, input: &mut Input) -> String {
     let n = input.number(8);
     let (list, table, work) = (input.length(), input.length(), input.length());
     let query = if mode == "asks" { input.length() } else { 0 };
     let (list, query) = (input.take(list), input.take(query));
-    let (mut table, mut work) = (Lent::new(table), Lent::new(work));
+    let (mut table, mut work) = (lent::cells(table), lent::cells(work));
     let mut line = Line::default();
     if mode == "asks" {
-        answered(&mut line, engine::ask(n, list, query, table.part(), work.part()));
+        line.said(engine::ask(n, list, query, table.part(), work.part()));
     } else {
         folded(&mut line, engine::fold(n, list, table.part(), work.part()));
     }
@@ -154,8 +136,8 @@ fn run(mode: &str, input: &mut Input) -> String {
 
 fn main() -> io::Result<()> {
     let mode = std::env::args().nth(1).unwrap_or_default();
-    if !["stored", "folds", "asks"].contains(&mode.as_str()) {
-        eprintln!("usage: driver stored | folds | asks");
+    if !["stored", "folds", "asks", "calls", "chain"].contains(&mode.as_str()) {
+        eprintln!("usage: driver stored | folds | asks | calls | chain");
         std::process::exit(2);
     }
     let mut bytes = Vec::new();

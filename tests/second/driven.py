@@ -1,7 +1,7 @@
 """Fresh random lists through a driver and through this program, and the stored ones: 'python3 driven.py DRIVER'.
 
-DRIVER folds lists and answers single queries on an engine (see tests/driver/main.rs).
-Every cell of both lent buffers is compared, and the driver watches guard cells around them. The seed is random
+DRIVER folds lists, answers queries and makes every call on their tables (see tests/driver/main.rs).
+Every lent cell and byte is compared, and the driver watches guards around them. The seed is random
 and printed; the environment variable SEED sets it. The last line is 'N passed, M failed'.
 """
 
@@ -12,6 +12,8 @@ import sys
 
 sys.path.insert(0, os.path.dirname(os.path.dirname(os.path.abspath(__file__))))
 
+from second.called import (chain_call, fresh_calls, refused_calls, same_chain, shorter_calls,  # noqa: E402
+                           small_graph_calls, stored_calls)
 from second.calls import ask, fold  # noqa: E402
 from second.corpus import random_word, spoilt  # noqa: E402
 from second.folding import fold_words, fold_words_quickly  # noqa: E402
@@ -25,6 +27,9 @@ MEMBERS = 100
 ASKS = 200
 BAD_N = [0, 27, 28, 256, 258, 65536, 2 ** 32, 2 ** 32 + 1, 2 ** 40, 2 ** 63, 2 ** 64 - 1]
 PAIRWISE_LETTERS = 300
+TABLES = 500
+PAIRS = 400
+MOST_POINTS = 1048577
 
 
 def folding_of(text):
@@ -157,7 +162,7 @@ def ask_line(case):
     """The line of a list with a query."""
     n, text, table, work, query = case
     answer, cells, after = ask(n, text, query, *lent(table, work), folding_of(text))
-    said = reply_items(n, answer, cells) if isinstance(answer, Refused) else ["inside" if answer else "outside"]
+    said = reply_items(n, answer, cells) if isinstance(answer, Refused) else ["yes" if answer else "no"]
     return said + cells + after
 
 
@@ -195,18 +200,43 @@ def run(driver, mode, cases, line):
     got = driven(driver, mode, b"".join(map(case_bytes, cases)))
     items = [line(case) for case in cases]
     tally = compare(mode, cases, got, [" ".join(map(str, one)) for one in items])
+    tell(mode, items, sum(case[2] + case[3] for case in cases), "cells")
+    return tally
+
+
+def tell(what, items, shown, unit):
+    """Tells how many cases were compared, with how many lent items, and what was met."""
     refused = [one[1] for one in items if one[0] == "refused"]
     met = ["%d by %d" % (refused.count(k), k) for k in sorted(set(refused))]
-    met += ["%d %s" % (count, side) for side in ("inside", "outside")
+    met += ["%d %s" % (count, side) for side in ("yes", "no")
             for count in [sum(1 for one in items if one[0] == side)] if count]
-    print("%s: %d cases, %d cells compared; %d refused, %s" % (
-        mode, len(cases), sum(case[2] + case[3] for case in cases), len(refused), ", ".join(met)))
-    return tally
+    print("%s: %d cases, %d %s compared; %d refused%s" % (
+        what, len(items), shown, unit, len(refused), "".join(", " + one for one in met)))
+
+
+def run_calls(driver, mode, calls):
+    """Runs calls both ways, tells what each met, and gives the tally."""
+    got = driven(driver, mode, b"".join(call.data for call in calls))
+    for name in sorted({call.name for call in calls}):
+        mine = [call for call in calls if call.name == name]
+        tell(name, [call.items for call in mine], sum(call.shown for call in mine), "lent items")
+    return compare(mode, [(call.name, call.data) for call in calls], got,
+                   [" ".join(map(str, call.items)) for call in calls])
+
+
+def run_chains(driver):
+    """A basis longer than 32 bits can tell; its length in closed form, which short chains hold to the words."""
+    wrong = [(n, points) for n in (1, 2, 3, 26) for points in (1, 2, 3, 40, 130) if n > 1 or points == 1
+             if not same_chain(n, points)]
+    for case in wrong:
+        print("failed: the closed form of a chain: %r" % (case,))
+    good, bad = run_calls(driver, "chain", [chain_call(3, 40, 5), chain_call(26, MOST_POINTS, 100)])
+    return good, bad + len(wrong)
 
 
 def all_inside(cases):
     """This program must find every member by construction inside."""
-    outside = [case for case in cases if ask_line(case)[0] != "inside"]
+    outside = [case for case in cases if ask_line(case)[0] != "yes"]
     for case in outside[:5]:
         print("failed: not inside by this program: %.200r" % (case,))
     return len(cases) - len(outside), len(outside)
@@ -223,13 +253,17 @@ def run_stored(driver):
 
 
 def main(driver):
-    """Runs folds, single queries and the stored lists."""
+    """Runs folds, single queries, the stored lists, and every call on tables."""
     seed = int(os.environ.get("SEED") or random.SystemRandom().randrange(2 ** 32))
     print("seed %d" % seed)
     chance = random.Random(seed)
     inside = [*members(chance)]
     tallies = [run(driver, "folds", [*good_folds(chance), *bad_folds(chance)], fold_line), all_inside(inside),
-               run(driver, "asks", inside + [*asks(chance)], ask_line), run_stored(driver)]
+               run(driver, "asks", inside + [*asks(chance)], ask_line), run_stored(driver),
+               run_calls(driver, "calls", [*small_graph_calls(chance), *fresh_calls(chance, TABLES),
+                                           *stored_calls(chance), *shorter_calls(chance, PAIRS),
+                                           *refused_calls()]),
+               run_chains(driver)]
     passed, failed = (sum(part) for part in zip(*tallies))
     print("%d passed, %d failed" % (passed, failed))
     return 1 if failed else 0

@@ -1,26 +1,39 @@
--- Outcomes as plain numbers for C, cited by the exported functions.
---   finiteOf i  == 1 for a finite index, else 0
---   indexOf i   == a finite index, else 0
---   replyOf o   == a refusal's number and place, or number 0 and the figures; what does not apply is 0
---   FoldReplied <-> the reply is that of an outcome that `fold` promises, with its cells
---   answerReply a == a refusal's number and place, or number 0 and 1 for inside, 0 for outside
---   AskReplied  <-> the reply is that of an answer that `ask` promises, with its cells
--- Assumes nothing.
-use mathlib.Core.Path.{_≡_}
+-- What answers become for C: plain numbers, number 0 where nothing is refused, and 0 for what does not apply.
+--   finiteOf i, indexOf i == 1 and a finite index, or 0 and 0
+--   replyOf o        == the figures of a fold
+--   checkedReply c   == edges, rank and index of a table
+--   answerReply a    == 1 for inside, 0 for outside
+--   equalityReply e  == 1 for equal, 0 for not
+--   basisReply a     == the words and bytes of a basis
+--   savedReply s     == the bytes of a file
+--   handedReply w a b == which of the lists a and b, and its bytes
+-- Cited by `Outcomes` and by the functions that turn answers into replies. Assumes nothing.
 use mathlib.Core.List.{List}
 use Prim.Native.Nat.{ℕ}
+use lib.ListN.{length}
 use Rattle.refusals.specs.declared.Refusal.{Refusal}
+use Rattle.lists.specs.Shorter.{Which, theFirst, theSecond, neither}
 use Rattle.tables.specs.declared.Index.{Index}
 use Rattle.tables.specs.declared.Index.the-variants.{Finite, Infinite}
+use Rattle.tables.specs.declared.Figures.{Figures}
+use Rattle.tables.specs.declared.Checked.{Checked}
+use Rattle.tables.specs.declared.Checked.the-variants.{Refused as CheckRefused, Counted}
 use Rattle.folds.specs.declared.FoldFigures.{FoldFigures}
 use Rattle.folds.specs.declared.Folded.{Folded}
 use Rattle.folds.specs.declared.Folded.the-variants.{Refused, Made}
-use Rattle.folds.specs.Folds.{FoldOutcome}
 use Rattle.members.specs.declared.Answer.{Answer}
 use Rattle.members.specs.declared.Answer.the-variants.{Refused as AnswerRefused, Inside, Outside}
-use Rattle.asks.specs.Asks.{AskOutcome}
+use Rattle.equals.specs.declared.Equality.{Equality}
+use Rattle.equals.specs.declared.Equality.the-variants.{Refused as EqualRefused, Yes, No}
+use Rattle.bases.specs.declared.BasisAnswer.{BasisAnswer}
+use Rattle.bases.specs.declared.BasisAnswer.the-variants.{Refused as BasisRefused, Written as BasisWritten}
+use Rattle.saves.specs.declared.Saved.{Saved}
+use Rattle.saves.specs.declared.Saved.the-variants.{Refused as SaveRefused, Written as FileWritten}
 use Rattle.subgroups.specs.declared.FoldReply.{FoldReply}
-use Rattle.subgroups.specs.declared.AskReply.{AskReply}
+use Rattle.subgroups.specs.declared.CheckReply.{CheckReply}
+use Rattle.subgroups.specs.declared.YesReply.{YesReply}
+use Rattle.subgroups.specs.declared.WrittenReply.{WrittenReply}
+use Rattle.subgroups.specs.declared.PartReply.{PartReply}
 
 abbrev pub finiteOf : Index → ℕ
 finiteOf (Finite k) = 1
@@ -66,14 +79,53 @@ abbrev pub replyOf : Folded → FoldReply
 replyOf (Refused r) = refusedReply r
 replyOf (Made f) = madeReply f
 
-abbrev pub FoldReplied : ℕ → List ℕ → List ℕ → List ℕ → FoldReply → List ℕ → List ℕ → Type 0
-FoldReplied n list table work r table′ work′ = (o : Folded) × FoldOutcome n list table work o table′ work′ × (r ≡ replyOf o)
+-- ── Tables ──
 
-abbrev pub answerReply : Answer → AskReply
-answerReply (AnswerRefused r) = record { number = r .number; place = r .place; inside = 0 }
-answerReply Inside = record { number = 0; place = 0; inside = 1 }
-answerReply Outside = record { number = 0; place = 0; inside = 0 }
+abbrev pub countedReply : Figures → CheckReply
+countedReply f =
+    record { number = 0; place = 0; edges = f .edges; rank = f .rank; finite = finiteOf (f .index); index = indexOf (f .index) }
 
-abbrev pub AskReplied : ℕ → List ℕ → List ℕ → List ℕ → List ℕ → AskReply → List ℕ → List ℕ → Type 0
-AskReplied n list query table work r table′ work′ =
-    (a : Answer) × AskOutcome n list query table work a table′ work′ × (r ≡ answerReply a)
+abbrev pub checkedReply : Checked → CheckReply
+checkedReply (CheckRefused r) = record { number = r .number; place = r .place; edges = 0; rank = 0; finite = 0; index = 0 }
+checkedReply (Counted f) = countedReply f
+
+-- ── Yes or no ──
+
+abbrev pub refusedYes : Refusal → YesReply
+refusedYes r = record { number = r .number; place = r .place; yes = 0 }
+
+abbrev pub said : ℕ → YesReply
+said k = record { number = 0; place = 0; yes = k }
+
+abbrev pub answerReply : Answer → YesReply
+answerReply (AnswerRefused r) = refusedYes r
+answerReply Inside = said 1
+answerReply Outside = said 0
+
+abbrev pub equalityReply : Equality → YesReply
+equalityReply (EqualRefused r) = refusedYes r
+equalityReply Yes = said 1
+equalityReply No = said 0
+
+-- ── What is written ──
+
+abbrev pub refusedWriting : Refusal → WrittenReply
+refusedWriting r = record { number = r .number; place = r .place; words = 0; bytes = 0 }
+
+abbrev pub wrote : ℕ → ℕ → WrittenReply
+wrote words bytes = record { number = 0; place = 0; words = words; bytes = bytes }
+
+abbrev pub basisReply : BasisAnswer → WrittenReply
+basisReply (BasisRefused r) = refusedWriting r
+basisReply (BasisWritten words bytes) = wrote words bytes
+
+abbrev pub savedReply : Saved → WrittenReply
+savedReply (SaveRefused r) = refusedWriting r
+savedReply (FileWritten bytes) = wrote 0 bytes
+
+-- ── Which list ──
+
+abbrev pub handedReply : Which → List ℕ → List ℕ → PartReply
+handedReply theFirst a b = record { which = 1; bytes = length a }
+handedReply theSecond a b = record { which = 2; bytes = length b }
+handedReply neither a b = record { which = 0; bytes = 0 }

@@ -8,27 +8,27 @@ use Rattle.subgroups.proofs.answer_reply.Tie as tie
 use Rattle.subgroups.proofs.answer_reply.Reads as reads
 use Rattle.subgroups.proofs.answer_reply.Lts as lts
 
--- src/lib.rt:114:25
+-- src/lib.rt:122:25
 enum-known-a : tie.Need-enum-known-a
 enum-known-a c = search needs
 
--- src/lib.rt:119:27
+-- src/lib.rt:127:27
 enum-told : tie.Need-enum-told
 enum-told c = search needs
 
--- src/lib.rt:124:28
+-- src/lib.rt:132:28
 enum-told-2 : tie.Need-enum-told-2
 enum-told-2 c = search needs
 
--- src/lib.rt:110:1
+-- src/lib.rt:118:1
 returns : tie.Need-returns
 returns c = sym (ap answerReply (c .before .a .given .1))
 
--- src/lib.rt:110:1
+-- src/lib.rt:118:1
 returns-2 : tie.Need-returns-2
 returns-2 c = sym (ap answerReply (c .enum-told .given .1))
 
--- src/lib.rt:110:1
+-- src/lib.rt:118:1
 returns-3 : tie.Need-returns-3
 returns-3 c = sym (ap answerReply (c .enum-told2 .given .1))
 

@@ -1,0 +1,53 @@
+-- What the exported functions promise: the reply is that of an answer that the function behind promises, with its cells.
+--   FoldReplied, AskReplied        <-> of `fold` and `ask`
+--   CheckReplied .. SaveTableReplied <-> of `check`, `member`, `equal`, `basis` and `save_table`, on lent tables
+--   ShorterReplied                 <-> the reply names the list that `shorter` hands back
+-- Assumes nothing.
+use mathlib.Core.Path.{_≡_}
+use mathlib.Core.List.{List}
+use Prim.Native.Nat.{ℕ}
+use Rattle.lists.specs.Shorter.{whichOf}
+use Rattle.tables.specs.declared.Checked.{Checked}
+use Rattle.tables.specs.Checks.{CheckOutcome}
+use Rattle.folds.specs.declared.Folded.{Folded}
+use Rattle.folds.specs.Folds.{FoldOutcome}
+use Rattle.members.specs.declared.Answer.{Answer}
+use Rattle.members.specs.Members.{MemberOutcome}
+use Rattle.asks.specs.Asks.{AskOutcome}
+use Rattle.equals.specs.declared.Equality.{Equality}
+use Rattle.equals.specs.Equals.{EqualOutcome}
+use Rattle.bases.specs.declared.BasisAnswer.{BasisAnswer}
+use Rattle.bases.specs.Bases.{BasisOutcome}
+use Rattle.saves.specs.declared.Saved.{Saved}
+use Rattle.saves.specs.Saves.{SaveTableOutcome}
+use Rattle.subgroups.specs.declared.FoldReply.{FoldReply}
+use Rattle.subgroups.specs.declared.CheckReply.{CheckReply}
+use Rattle.subgroups.specs.declared.YesReply.{YesReply}
+use Rattle.subgroups.specs.declared.WrittenReply.{WrittenReply}
+use Rattle.subgroups.specs.declared.PartReply.{PartReply}
+use Rattle.subgroups.specs.Replies.{replyOf, checkedReply, answerReply, equalityReply, basisReply, savedReply, handedReply}
+
+abbrev pub FoldReplied : ℕ → List ℕ → List ℕ → List ℕ → FoldReply → List ℕ → List ℕ → Type 0
+FoldReplied n list table work r table′ work′ = (o : Folded) × FoldOutcome n list table work o table′ work′ × (r ≡ replyOf o)
+
+abbrev pub AskReplied : ℕ → List ℕ → List ℕ → List ℕ → List ℕ → YesReply → List ℕ → List ℕ → Type 0
+AskReplied n list query table work r table′ work′ =
+    (a : Answer) × AskOutcome n list query table work a table′ work′ × (r ≡ answerReply a)
+
+abbrev pub CheckReplied : ℕ → ℕ → List ℕ → CheckReply → Type 0
+CheckReplied n N t r = (c : Checked) × CheckOutcome n N t c × (r ≡ checkedReply c)
+
+abbrev pub MemberReplied : ℕ → ℕ → List ℕ → List ℕ → List ℕ → YesReply → List ℕ → Type 0
+MemberReplied n N t query work r work′ = (a : Answer) × MemberOutcome n N t query work a work′ × (r ≡ answerReply a)
+
+abbrev pub EqualReplied : ℕ → ℕ → List ℕ → ℕ → ℕ → List ℕ → YesReply → Type 0
+EqualReplied n N t m M s r = (e : Equality) × EqualOutcome n N t m M s e × (r ≡ equalityReply e)
+
+abbrev pub BasisReplied : ℕ → ℕ → List ℕ → List ℕ → List ℕ → WrittenReply → List ℕ → List ℕ → Type 0
+BasisReplied n N t work out r work′ out′ = (a : BasisAnswer) × BasisOutcome n N t work out a work′ out′ × (r ≡ basisReply a)
+
+abbrev pub SaveTableReplied : ℕ → ℕ → List ℕ → List ℕ → WrittenReply → List ℕ → Type 0
+SaveTableReplied n N t out r out′ = (s : Saved) × SaveTableOutcome n N t out s out′ × (r ≡ savedReply s)
+
+abbrev pub ShorterReplied : ℕ → List ℕ → List ℕ → PartReply → Type 0
+ShorterReplied n a b r = r ≡ handedReply (whichOf n a b) a b
