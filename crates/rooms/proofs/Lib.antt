@@ -2,3 +2,4 @@
 pub mod FindLaws
 pub mod UniteLaws
 pub mod RoomLaws
+pub mod Determined

@@ -3,6 +3,7 @@
 --   Growing, GrownIn        <-> what a link to a new point asks and leaves
 --   ChainFits, Chained      <-> what chaining the letters first .. end - 1 of those cells from a to b asks and leaves
 --   ClosedIn                <-> what the last link of a chain leaves
+--   chainedBy, chainedCells == the state, and the work cells, once they are chained
 -- Assumes nothing.
 use mathlib.Core.Path.{_≡_}
 use mathlib.Core.List.{List, []}
@@ -45,7 +46,6 @@ pub record ChainFits (r : Room) (table work : List ℕ) (count a b first end : �
   pub chainable
       : Chainable (λ w. Unit {0}) (λ v. []) (usual (r .n)) (stateIn r table work count) a (part (wordIn r work) first end) b
 
--- the state and the work cells once that is chained
 abbrev pub chainedBy : Room → List ℕ → List ℕ → ℕ → ℕ → ℕ → ℕ → ℕ → State
 chainedBy r table work count a b first end = chained (stateIn r table work count) a (part (wordIn r work) first end) b
 

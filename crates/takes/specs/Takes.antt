@@ -1,6 +1,6 @@
 -- One word taken in, on any table with nothing pending, cited by `circle` and `take_in`.
 --   reducedIn R u work    == the work cells once the word u has been reduced behind the pending cells; R is the number of rows
---   takenCells R ys s w u == the work cells once u is taken in: reduced, chained and drained
+--   circledCells R s w u  == the work cells once it is also read and chained; takenCells R ys s w u == and drained
 --   Takeable   <-> nothing is pending, the word's letters are letters of n generators, and it has room for its letters and points
 --   CircleOf   <-> the word is read and chained (engine, `takenIn`); TakenIn <-> and drained
 -- Assumes nothing.
@@ -22,7 +22,6 @@ use Rattle.takes.specs.declared.Taken.{Taken}
 unfoldable pub reducedIn : ℕ → List ℕ → List ℕ → List ℕ
 reducedIn R u work = take (2 * R) work ++ reducedCells u (drop (2 * R) work)
 
--- before the drain
 abbrev pub circledCells : ℕ → State → List ℕ → List ℕ → List ℕ
 circledCells R s w u = takenWork R s (reducedIn R u w) (reduced u)
 
