@@ -1,6 +1,6 @@
--- The contracts of `fold` and of `take_words` fix their outcome.
+-- The contracts of `fold`, and of its parts `take_words` and `build`, fix their outcome.
 --   table-determined : of one list one table is left
---   words-determined : two outcomes of `take_words` that conform on one input are equal, answer and cells
+--   words-determined, build-determined : two outcomes of `take_words`, and of `build`, that conform on one input are equal, answer and cells
 --   fold-determined  : two outcomes that conform on one input are equal, answer and cells
 -- One subgroup has one table, the room behind its points is absent, and every complete folding has the same counts. Assumes nothing.
 use mathlib.Core.Path.{_≡_, refl, sym, _∙_, ap, subst, fun-ext}
@@ -27,12 +27,13 @@ use Rattle.tables.specs.Checks.{figuresAs}
 use Rattle.numbering.proofs.StepLaws.{cell-read}
 use Rattle.rooms.specs.declared.Room.{Room}
 use Rattle.lists.specs.declared.StartSize.{StartSize}
+use Rattle.folds.specs.declared.BuildSize.{BuildSize}
 use Rattle.folds.specs.declared.FoldFigures.{FoldFigures}
 use Rattle.folds.specs.declared.Folded.{Folded}
 use Rattle.folds.specs.declared.Folded.the-variants.{Made}
 use Rattle.folds.specs.Causes.{rowsOf, foldRefusal}
 use Rattle.folds.specs.Folds.{Cleared, Done, OutcomeFor, FoldOutcome}
-use Rattle.folds.specs.Rows.{Prepared, allIn, WordsIn}
+use Rattle.folds.specs.Rows.{Prepared, allIn, WordsIn, Foldable, Built}
 use Rattle.folds.proofs.CauseLaws.{fine-alphabet, fold-fine}
 
 -- ── Every word taken in ──
@@ -103,6 +104,19 @@ module _ {n N M : ℕ} (list : List ℕ) {table work t₁ w₁ t₂ w₂ : List 
             cells = λ v y. ap (λ (f : Cells). f v y) second ∙ sym (ap (λ (f : Cells). f v y) first ∙ same-table .1 v y);
             rest = d .rest ∙ sym (c .rest);
           }
+
+-- and so is all that `build` leaves and says
+pub build-determined : {n : ℕ} {list table work : List ℕ} → Foldable n list table work → {f g : BuildSize} {t₁ w₁ t₂ w₂ : List ℕ}
+    → Built n list table work f t₁ w₁ → Built n list table work g t₂ w₂ → (f ≡ g) × (t₁ ≡ t₂) × (w₁ ≡ w₂)
+build-determined {n} {list} p {f} {g} h k = (
+  sizes (same-table list (p .fine) (p .rows) (h .subgroup) (h .cleared) (k .subgroup) (k .cleared) .0)
+      (h .sizes .points ∙ sym (k .sizes .points)) (h .sizes .edges ∙ sym (k .sizes .edges)),
+  table-determined list (p .fine) (p .rows) (h .subgroup) (h .cleared) (k .subgroup) (k .cleared),
+  h .cleared .zeros ∙ sym (k .cleared .zeros),
+)
+  where
+    sizes : f .points ≡ g .points → f .start .points ≡ g .start .points → f .start .edges ≡ g .start .edges → f ≡ g
+    sizes a b c = λ i. record { points = a i; start = record { points = b i; edges = c i } }
 
 module _ {n : ℕ} {list table work : List ℕ} {f g : FoldFigures} {t₁ w₁ t₂ w₂ : List ℕ}
     (clear : foldRefusal n list (length table) (length work) ≡ none)
