@@ -3,3 +3,4 @@ pub mod FindLaws
 pub mod UniteLaws
 pub mod RoomLaws
 pub mod Determined
+pub mod Refuted
