@@ -16,7 +16,8 @@ use Rattle.engine.proofs.StageLaws.{Kept}
 use Rattle.engine.proofs.MoveLaws.{cleared-kept}
 use Rattle.engine.proofs.DrainLaws.{pending-made, kept-roomy}
 use Rattle.rooms.specs.declared.Room.{Room}
-use Rattle.rooms.specs.Rooms.{stateIn, Lent, Usable, Fit, Left}
+use Rattle.rooms.specs.WorkCells.{movedWork, clearedWork}
+use Rattle.rooms.specs.Rooms.{stateIn, Lent, Usable, Fit, After}
 use Rattle.rooms.proofs.RoomLaws.{all-words, left-first, left-as, left-then, fit-left, fit-usable}
 use Rattle.links.specs.Links.{Ends}
 use Rattle.drains.specs.Hands.{InHand}
@@ -26,6 +27,12 @@ cleared-more : (s : State) (v u : ℕ) (l : List ℕ) (y : ℕ) → cleared s v 
 unfolding cleared
 cleared-more s v u [] y = refl
 cleared-more s v u (x ∷ l) y = cleared-more (moved s v u x) v u l y
+
+work-more : (R : ℕ) (s : State) (w : List ℕ) (v u : ℕ) (l : List ℕ) (y : ℕ)
+    → clearedWork R s w v u (l ++ (y ∷ [])) ≡ movedWork R (cleared s v u l) (clearedWork R s w v u l) v u y
+unfolding cleared clearedWork
+work-more R s w v u [] y = refl
+work-more R s w v u (x ∷ l) y = work-more R (moved s v u x) (movedWork R s w v u x) v u l y
 
 -- the first y letters
 abbrev before : ℕ → ℕ → List ℕ
@@ -39,14 +46,18 @@ before-more n y h =
 before-all : (n y : ℕ) → 2 * n ≡ y → before n y ≡ usual n
 before-all n y e = ap (before n) (sym e ∙ sym (length-usual n)) ∙ take-length (usual n)
 
+-- the edges of the letters l have moved
+abbrev ClearedBy : Room → ℕ → ℕ → List ℕ → List ℕ → List ℕ → ℕ → List ℕ → List ℕ → ℕ → Type 0
+ClearedBy r v u l = After r (λ s. cleared s v u l) (λ s w. clearedWork (r .rows) s w v u l)
+
 pub record Head (r : Room) (table₀ work₀ : List ℕ) (count v u y : ℕ) (table work : List ℕ) (waiting : ℕ) : Type 0 where
   pub hand : InHand r table₀ work₀ count v u
   pub inside : y ≤ 2 * r .n
-  pub left : Left r table₀ work₀ (cleared (stateIn r table₀ work₀ count) v u (before (r .n) y)) table work waiting
+  pub left : ClearedBy r v u (before (r .n) y) table₀ work₀ count table work waiting
 
 pub head-first : {r : Room} {table work : List ℕ} {count v u : ℕ} → InHand r table work count v u
     → Head r table work count v u 0 table work count
-unfolding cleared
+unfolding cleared clearedWork
 head-first {r} {table} {work} {count} h = record { hand = h; inside = omega arith; left = left-first (h .lent) count }
 
 module _ {r : Room} {table₀ work₀ : List ℕ} {count v u y : ℕ} {table work : List ℕ} {waiting : ℕ}
@@ -69,18 +80,20 @@ module _ {r : Room} {table₀ work₀ : List ℕ} {count v u y : ℕ} {table wor
   )
 
   pub head-turn : {table′ work′ : List ℕ} {k : ℕ} → y < 2 * r .n
-      → Left r table work (moved (stateIn r table work waiting) v u y) table′ work′ k
+      → After r (λ s. moved s v u y) (λ s w. movedWork (r .rows) s w v u y) table work waiting table′ work′ k
       → Head r table₀ work₀ count v u (y + 1) table′ work′ k
   head-turn {table′} {work′} {k} l m =
       record {
         hand = h .hand;
         inside = omega arith;
-        left = left-as (sym (cleared-more (stateIn r table₀ work₀ count) v u (before (r .n) y) y)
-            ∙ ap (cleared (stateIn r table₀ work₀ count) v u) (sym (before-more (r .n) y l)))
-            (left-then (h .left) (λ s. moved s v u y) m);
+        left = subst (λ ys. ClearedBy r v u ys table₀ work₀ count table′ work′ k) (sym (before-more (r .n) y l))
+            (left-as (sym (cleared-more old v u (before (r .n) y) y)) (sym (work-more (r .rows) old work₀ v u (before (r .n) y) y))
+            (left-then (h .left) (λ s. moved s v u y) (λ s w. movedWork (r .rows) s w v u y) m));
       }
+    where
+      old : State
+      old = stateIn r table₀ work₀ count
 
-  pub head-done : 2 * r .n ≤ y
-      → Left r table₀ work₀ (cleared (stateIn r table₀ work₀ count) v u (usual (r .n))) table work waiting
+  pub head-done : 2 * r .n ≤ y → ClearedBy r v u (usual (r .n)) table₀ work₀ count table work waiting
   head-done l =
-      left-as (ap (cleared (stateIn r table₀ work₀ count) v u) (before-all (r .n) y (omega (arith, h .inside)))) (h .left)
+      subst (λ ys. ClearedBy r v u ys table₀ work₀ count table work waiting) (before-all (r .n) y (omega (arith, h .inside))) (h .left)

@@ -1,5 +1,6 @@
--- The contract of `fold` fixes its outcome.
+-- The contracts of `fold`, and of its parts `take_words` and `build`, fix their outcome.
 --   table-determined : of one list one table is left
+--   words-determined, build-determined : two outcomes of `take_words`, and of `build`, that conform on one input are equal, answer and cells
 --   fold-determined  : two outcomes that conform on one input are equal, answer and cells
 -- One subgroup has one table, the room behind its points is absent, and every complete folding has the same counts. Assumes nothing.
 use mathlib.Core.Path.{_≡_, refl, sym, _∙_, ap, subst, fun-ext}
@@ -19,18 +20,39 @@ use Rattle.theory.specs.Graphs.{startGraph}
 use Rattle.theory.specs.Subgroups.{TableOf}
 use Rattle.theory.proofs.FoldCounts.{folding-exists}
 use Rattle.theory.proofs.Main.{tables-equal-iff-same-subgroup}
+use Rattle.engine.specs.Engine.{State}
 use Rattle.engine.specs.Work.{Holds}
-use Rattle.engine.proofs.HoldLaws.{holds-first}
+use Rattle.engine.proofs.HoldLaws.{holds-first, holds-determined}
 use Rattle.tables.specs.Checks.{figuresAs}
-use Rattle.numbering.specs.Numbered.{Inverse, Roomed}
 use Rattle.numbering.proofs.StepLaws.{cell-read}
-use Rattle.numbering.proofs.Determined.{holds-determined}
+use Rattle.rooms.specs.declared.Room.{Room}
+use Rattle.lists.specs.declared.StartSize.{StartSize}
+use Rattle.folds.specs.declared.BuildSize.{BuildSize}
 use Rattle.folds.specs.declared.FoldFigures.{FoldFigures}
 use Rattle.folds.specs.declared.Folded.{Folded}
 use Rattle.folds.specs.declared.Folded.the-variants.{Made}
 use Rattle.folds.specs.Causes.{rowsOf, foldRefusal}
 use Rattle.folds.specs.Folds.{Cleared, Done, OutcomeFor, FoldOutcome}
-use Rattle.folds.proofs.CauseLaws.{fine-alphabet, rows-few, fold-fine}
+use Rattle.folds.specs.Rows.{Prepared, allIn, WordsIn, Foldable, Built}
+use Rattle.folds.proofs.CauseLaws.{fine-alphabet, fold-fine}
+
+-- ── Every word taken in ──
+
+module _ {r : Room} {list table work : List ℕ} (p : Prepared r list table work) {f g : StartSize} {t₁ w₁ t₂ w₂ : List ℕ} where
+  pub words-determined : WordsIn r list table work f t₁ w₁ → WordsIn r list table work g t₂ w₂ → (f ≡ g) × (t₁ ≡ t₂) × (w₁ ≡ w₂)
+  words-determined h k = (
+    sizes (h .sizes .points ∙ sym (k .sizes .points)) (h .sizes .edges ∙ sym (k .sizes .edges)),
+    holds-determined (p .lent .some) (p .lent .lent) (held h) (held k),
+    h .cells ∙ sym (k .cells),
+  )
+    where
+      sizes : f .points ≡ g .points → f .edges ≡ g .edges → f ≡ g
+      sizes a b = λ i. record { points = a i; edges = b i }
+
+      held : {e : StartSize} {t w : List ℕ} → WordsIn r list table work e t w → Holds (r .n) (r .rows) table (allIn r list .cells) t
+      held m = record { same = m .table-same; cells = λ v y. ap (λ (s : State). s .cells v y) (m .state); rest = m .table-rest }
+
+-- ── The fold ──
 
 -- the cells of the room are those of the table
 room-cells : {n R N : ℕ} {table work table′ work′ : List ℕ}
@@ -63,7 +85,8 @@ module _ {n N M : ℕ} (list : List ℕ) {table work t₁ w₁ t₂ w₂ : List 
   same-table = tables-equal-iff-same-subgroup T S .1 (record { onward = λ q m. m; back = λ q m. m })
 
   pub table-determined : t₁ ≡ t₂
-  table-determined = holds-determined room (holds-first n (rowsOf list) t₁) other
+  table-determined =
+      holds-determined (fine-alphabet n list fine .0) (omega (arith, lent, c .same)) (holds-first n (rowsOf list) t₁) other
     where
       most : n ≤ 26
       most = fine-alphabet n list fine .1
@@ -74,16 +97,6 @@ module _ {n N M : ℕ} (list : List ℕ) {table work t₁ w₁ t₂ w₂ : List 
       second : cell n (rowsOf list) t₂ ≡ cell n M t₂
       second = room-cells most lent d
 
-      room : Roomed n (rowsOf list) t₁
-      room =
-          record {
-            inverse = subst Inverse (sym first) (T .canonical .inverse);
-            some = fine-alphabet n list fine .0;
-            most = most;
-            fits = rows-few n list fine;
-            lent = omega (arith, lent, c .same);
-          }
-
       other : Holds n (rowsOf list) t₁ (cell n (rowsOf list) t₁) t₂
       other =
           record {
@@ -91,6 +104,19 @@ module _ {n N M : ℕ} (list : List ℕ) {table work t₁ w₁ t₂ w₂ : List 
             cells = λ v y. ap (λ (f : Cells). f v y) second ∙ sym (ap (λ (f : Cells). f v y) first ∙ same-table .1 v y);
             rest = d .rest ∙ sym (c .rest);
           }
+
+-- and so is all that `build` leaves and says
+pub build-determined : {n : ℕ} {list table work : List ℕ} → Foldable n list table work → {f g : BuildSize} {t₁ w₁ t₂ w₂ : List ℕ}
+    → Built n list table work f t₁ w₁ → Built n list table work g t₂ w₂ → (f ≡ g) × (t₁ ≡ t₂) × (w₁ ≡ w₂)
+build-determined {n} {list} p {f} {g} h k = (
+  sizes (same-table list (p .fine) (p .rows) (h .subgroup) (h .cleared) (k .subgroup) (k .cleared) .0)
+      (h .sizes .points ∙ sym (k .sizes .points)) (h .sizes .edges ∙ sym (k .sizes .edges)),
+  table-determined list (p .fine) (p .rows) (h .subgroup) (h .cleared) (k .subgroup) (k .cleared),
+  h .cleared .zeros ∙ sym (k .cleared .zeros),
+)
+  where
+    sizes : f .points ≡ g .points → f .start .points ≡ g .start .points → f .start .edges ≡ g .start .edges → f ≡ g
+    sizes a b c = λ i. record { points = a i; start = record { points = b i; edges = c i } }
 
 module _ {n : ℕ} {list table work : List ℕ} {f g : FoldFigures} {t₁ w₁ t₂ w₂ : List ℕ}
     (clear : foldRefusal n list (length table) (length work) ≡ none)

@@ -24,9 +24,9 @@ use Rattle.lists.specs.Counts.{nextStart}
 use Rattle.lists.proofs.CountTurn.{rest-of}
 use Rattle.lists.proofs.StartTurn.{words-next, next-in}
 use Rattle.takes.specs.declared.Taken.{Taken}
-use Rattle.takes.specs.Takes.{Takeable, TakenIn}
+use Rattle.takes.specs.Takes.{takenCells, Takeable, TakenIn}
 use Rattle.takes.proofs.TakeTurn.{taken-points, taken-fit, taken-rest, taken-long}
-use Rattle.folds.specs.Rows.{Prepared, allIn, WordsIn}
+use Rattle.folds.specs.Rows.{Prepared, allIn, foldedCells, WordsIn}
 
 some-point : (ws : List (List ℕ)) → 1 ≤ startPoints ws
 unfolding startPoints
@@ -39,6 +39,11 @@ folded-more : (ys : List ℕ) (s : State) (w : List ℕ) (ws : List (List ℕ))
 unfolding folded
 folded-more ys s w ws = refl
 
+cells-more : (R : ℕ) (ys : List ℕ) (s : State) (w u : List ℕ) (us : List (List ℕ))
+    → foldedCells R ys (drained ys (takenIn s (reduced u))) (takenCells R ys s w u) us ≡ foldedCells R ys s w (u ∷ us)
+unfolding foldedCells
+cells-more R ys s w u us = refl
+
 pub record Head (r : Room) (list table₀ work₀ : List ℕ) (made points edges at : ℕ) (table work : List ℕ) : Type 0 where
   pub prepared : Prepared r list table₀ work₀
   pub inside : at ≤ length list
@@ -46,6 +51,9 @@ pub record Head (r : Room) (list table₀ work₀ : List ℕ) (made points edges
   pub words : AllWords (usual (r .n)) (wordsOf (drop at list))
   pub room : made + startPoints (wordsOf (drop at list)) ≤ r .rows + 1
   pub ends : folded (usual (r .n)) (stateIn (withMade r made) table work 0) (wordsOf (drop at list)) ≡ folded (usual (r .n)) start (wordsOf list)
+  pub cells
+      : foldedCells (r .rows) (usual (r .n)) (stateIn (withMade r made) table work 0) work (wordsOf (drop at list))
+      ≡ foldedCells (r .rows) (usual (r .n)) start work₀ (wordsOf list)
   pub pointed : points + startPoints (wordsOf (drop at list)) ≡ startPoints (wordsOf list) + 1
   pub edged : edges + reducedLength (wordsOf (drop at list)) ≡ reducedLength (wordsOf list)
   pub table-same : length table ≡ length table₀
@@ -69,6 +77,7 @@ head-first {r} {list} {table} {work} p =
       words = good-words (r .n) list (p .fine);
       room = omega (arith, list-points list, p .rows, one);
       ends = ap (λ s. folded (usual (r .n)) s (wordsOf list)) (p .fresh);
+      cells = ap (λ s. foldedCells (r .rows) (usual (r .n)) s work (wordsOf list)) (p .fresh);
       pointed = omega arith;
       edged = omega arith;
       table-same = refl;
@@ -123,12 +132,25 @@ module _ {r : Room} {list table₀ work₀ : List ℕ} {made points edges at : �
           → Head r list table₀ work₀ (g .made) (points + m) (edges + g .left) e table′ work′
       head-turn {m} {e} fresh q = subst (λ j. Head r list table₀ work₀ (g .made) (points + m) (edges + g .left) j table′ work′) (sym q) turned
         where
+          after : State
+          after = drained (usual (r .n)) (takenIn (stateIn (withMade r made) table work 0) (reduced (firstWord d)))
+
           ahead : folded (usual (r .n)) (stateIn (withMade r (g .made)) table′ work′ 0) (wordsOf (drop next list)) ≡ folded (usual (r .n)) start (wordsOf list)
           ahead =
               ap (λ s. folded (usual (r .n)) s (wordsOf (drop next list))) (taken .left .state)
               ∙ folded-more (usual (r .n)) (stateIn (withMade r made) table work 0) (firstWord d) (wordsOf (drop next list))
               ∙ ap (folded (usual (r .n)) (stateIn (withMade r made) table work 0)) (sym walk)
               ∙ h .ends
+
+          cells-ahead
+              : foldedCells (r .rows) (usual (r .n)) (stateIn (withMade r (g .made)) table′ work′ 0) work′ (wordsOf (drop next list))
+              ≡ foldedCells (r .rows) (usual (r .n)) start work₀ (wordsOf list)
+          cells-ahead =
+              ap (λ s. foldedCells (r .rows) (usual (r .n)) s work′ (wordsOf (drop next list))) (taken .left .state)
+              ∙ ap (λ w. foldedCells (r .rows) (usual (r .n)) after w (wordsOf (drop next list))) (taken .left .cells)
+              ∙ cells-more (r .rows) (usual (r .n)) (stateIn (withMade r made) table work 0) work (firstWord d) (wordsOf (drop next list))
+              ∙ ap (foldedCells (r .rows) (usual (r .n)) (stateIn (withMade r made) table work 0) work) (sym walk)
+              ∙ h .cells
 
           turned : Head r list table₀ work₀ (g .made) (points + m) (edges + g .left) next table′ work′
           turned =
@@ -141,6 +163,7 @@ module _ {r : Room} {list table₀ work₀ : List ℕ} {made points edges at : �
                 pointed = omega (arith, h .pointed, more, taken .letters, fresh);
                 edged = omega (arith, h .edged, longer, taken .letters);
                 ends = ahead;
+                cells = cells-ahead;
                 table-same = taken .left .table-same ∙ h .table-same;
                 table-rest = taken .left .table-rest ∙ h .table-rest;
                 work-same = taken-long takeable taken ∙ h .work-same;
@@ -156,7 +179,7 @@ module _ {r : Room} {list table₀ work₀ : List ℕ} {made points edges at : �
           )
 
   pub head-done : length list ≤ at → WordsIn r list table₀ work₀ (record { points = points; edges = edges }) table work
-  unfolding folded wordsOf startPoints reducedLength startGraph
+  unfolding folded foldedCells wordsOf startPoints reducedLength startGraph
   head-done l =
       record {
         sizes =
@@ -165,6 +188,7 @@ module _ {r : Room} {list table₀ work₀ : List ℕ} {made points edges at : �
               edges = omega (arith, h .edged, ap (λ t. reducedLength (wordsOf t)) none, start-edges (wordsOf list));
             };
         state = subst (λ m. stateIn (withMade r m) table work 0 ≡ allIn r list) (ap (λ s. s .made) whole) whole;
+        cells = sym (ap (λ t. foldedCells (r .rows) (usual (r .n)) (stateIn (withMade r made) table work 0) work (wordsOf t)) none) ∙ h .cells;
         table-same = h .table-same;
         table-rest = h .table-rest;
         work-same = h .work-same;

@@ -1,2 +1,3 @@
 -- Edges in lent cells.
 pub mod LinkLaws
+pub mod Determined

@@ -5,7 +5,8 @@ ghost use Rattle.theory.specs.Tables.{cell};
 ghost use Rattle.engine.specs.Cells.{put, linked, unlinked};
 ghost use Rattle.engine.specs.Engine.{joined, moved, farEnd};
 ghost use Rattle.engine.specs.Work.{Holds};
-ghost use Rattle.rooms.specs.Rooms.{stateIn, Usable, Left};
+ghost use Rattle.rooms.specs.Rooms.{Usable, After};
+ghost use Rattle.rooms.specs.WorkCells.{joinedWork, movedWork};
 ghost use Rattle.links.specs.Links.{InTable, Edge, Ends};
 use rooms::Room;
 
@@ -63,7 +64,7 @@ pub fn link(
 ) -> usize
     requires usable { ⌜ Usable room (now table) (now work) count ⌝ }
     requires { ⌜ Ends room a y b ⌝ }
-    ensures joined { λ r. ⌜ Left room (now (table .entry)) (now (work .entry)) (joined (stateIn room (now (table .entry)) (now (work .entry)) count) a y b) (now (table .exit)) (now (work .exit)) r ⌝ }
+    ensures joined { λ r. ⌜ After room (λ s. joined s a y b) (λ s w. joinedWork (room .rows) s w a y b) (now (table .entry)) (now (work .entry)) count (now (table .exit)) (now (work .exit)) r ⌝ }
 {
     let ahead = cell_at(table, room, a, y);
     if ahead != ABSENT {
@@ -96,7 +97,7 @@ pub fn move_edge(
 ) -> usize
     requires usable { ⌜ Usable room (now table) (now work) count ⌝ }
     requires { ⌜ Ends room v y u ⌝ }
-    ensures moved { λ r. ⌜ Left room (now (table .entry)) (now (work .entry)) (moved (stateIn room (now (table .entry)) (now (work .entry)) count) v u y) (now (table .exit)) (now (work .exit)) r ⌝ }
+    ensures moved { λ r. ⌜ After room (λ s. moved s v u y) (λ s w. movedWork (room .rows) s w v u y) (now (table .entry)) (now (work .entry)) count (now (table .exit)) (now (work .exit)) r ⌝ }
 {
     let q = cell_at(table, room, v, y);
     if q == ABSENT {

@@ -2,3 +2,5 @@
 pub mod FindLaws
 pub mod UniteLaws
 pub mod RoomLaws
+pub mod Determined
+pub mod Refuted

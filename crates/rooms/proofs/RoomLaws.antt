@@ -20,8 +20,9 @@ use Rattle.engine.proofs.WorkLaws.{pending-length}
 use Rattle.engine.proofs.StageLaws.{named-made}
 use Rattle.engine.proofs.DrainLaws.{pending-room}
 use Rattle.rooms.specs.declared.Room.{Room}
-use Rattle.rooms.specs.Uniting.{United}
-use Rattle.rooms.specs.Rooms.{stateIn, withMade, Lent, Usable, Plain, Fit, Left}
+use Rattle.rooms.specs.Uniting.{bothHalved, unitedCells, United}
+use Rattle.rooms.specs.WorkCells.{unitedWork}
+use Rattle.rooms.specs.Rooms.{stateIn, withMade, Lent, Usable, Plain, Fit, Left, After}
 use Rattle.rooms.proofs.UniteLaws.{Ready, united-state, united-falls, united-length, united-behind}
 
 -- every word is in the subgroup of all words
@@ -49,16 +50,25 @@ plain-stage g =
     }
 
 module _ {r : Room} {table work : List ℕ} (h : Lent r table work) where
-  pub left-first : (count : ℕ) → Left r table work (stateIn r table work count) table work count
+  pub left-first : (count : ℕ) → Left r table work (stateIn r table work count) work table work count
   left-first count =
-      record { state = refl; falls = h .falls; table-same = refl; table-rest = refl; work-same = refl; work-rest = refl }
+      record {
+        state = refl;
+        cells = refl;
+        falls = h .falls;
+        table-same = refl;
+        table-rest = refl;
+        work-same = refl;
+        work-rest = refl;
+      }
 
   -- the table alone changes
   pub left-cells : {c : Cells} {after : List ℕ} (count : ℕ) → Holds (r .n) (r .rows) table c after
-      → Left r table work (withCells (stateIn r table work count) c) after work count
+      → Left r table work (withCells (stateIn r table work count) c) work after work count
   left-cells {c} {after} count k =
       record {
         state = ap (λ d. stateOf d (forwardOf work (r .made)) (pendingOf (drop (r .rows) work) count) (r .made)) (fun-ext (λ v. fun-ext (λ y. k .cells v y)));
+        cells = refl;
         falls = h .falls;
         table-same = k .same;
         table-rest = k .rest;
@@ -66,11 +76,12 @@ module _ {r : Room} {table work : List ℕ} (h : Lent r table work) where
         work-rest = refl;
       }
 
-pub left-as : {r : Room} {table work : List ℕ} {s t : State} {table′ work′ : List ℕ} {count : ℕ} → s ≡ t
-    → Left r table work s table′ work′ count → Left r table work t table′ work′ count
-left-as e k =
+pub left-as : {r : Room} {table work : List ℕ} {s t : State} {w v table′ work′ : List ℕ} {count : ℕ} → s ≡ t → w ≡ v
+    → Left r table work s w table′ work′ count → Left r table work t v table′ work′ count
+left-as e d k =
     record {
       state = k .state ∙ e;
+      cells = k .cells ∙ d;
       falls = k .falls;
       table-same = k .table-same;
       table-rest = k .table-rest;
@@ -78,31 +89,33 @@ left-as e k =
       work-rest = k .work-rest;
     }
 
--- one operation after another, where the room may have grown
-pub left-after : {r q : Room} {table work : List ℕ} {s : State} {mid way : List ℕ} {count : ℕ} {table′ work′ : List ℕ} {k : ℕ}
-    → q .n ≡ r .n → q .rows ≡ r .rows → Left r table work s mid way count → (f : State → State)
-    → Left q mid way (f (stateIn r mid way count)) table′ work′ k → Left q table work (f s) table′ work′ k
-left-after {r} {q} {table} {work} {s} {mid} {way} en er h f g =
+-- one operation after another, where the room may have grown: f is what the second makes of the state, g of the work cells
+pub left-after : {r q : Room} {table work : List ℕ} {s : State} {w mid way : List ℕ} {count : ℕ} {table′ work′ : List ℕ} {k : ℕ}
+    → q .n ≡ r .n → q .rows ≡ r .rows → Left r table work s w mid way count → (f : State → State) (g : State → List ℕ → List ℕ)
+    → Left q mid way (f (stateIn r mid way count)) (g (stateIn r mid way count) way) table′ work′ k
+    → Left q table work (f s) (g s w) table′ work′ k
+left-after {r} {q} {table} {work} {s} {w} {mid} {way} en er h f g m =
     record {
-      state = g .state ∙ ap f (h .state);
-      falls = g .falls;
-      table-same = g .table-same ∙ h .table-same;
-      table-rest = g .table-rest ∙ subst (λ j. drop j mid ≡ drop j table) (sym cells) (h .table-rest);
-      work-same = g .work-same ∙ h .work-same;
-      work-rest = g .work-rest ∙ subst (λ j. drop (2 * j) way ≡ drop (2 * j) work) (sym er) (h .work-rest);
+      state = m .state ∙ ap f (h .state);
+      cells = m .cells ∙ ap (λ t. g t way) (h .state) ∙ ap (g s) (h .cells);
+      falls = m .falls;
+      table-same = m .table-same ∙ h .table-same;
+      table-rest = m .table-rest ∙ subst (λ j. drop j mid ≡ drop j table) (sym cells) (h .table-rest);
+      work-same = m .work-same ∙ h .work-same;
+      work-rest = m .work-rest ∙ subst (λ j. drop (2 * j) way ≡ drop (2 * j) work) (sym er) (h .work-rest);
     }
   where
     cells : q .rows * (2 * q .n) ≡ r .rows * (2 * r .n)
     cells = ap (λ j. j * (2 * q .n)) er ∙ ap (λ j. r .rows * (2 * j)) en
 
-pub left-then : {r : Room} {table work : List ℕ} {s : State} {mid way : List ℕ} {count : ℕ} {table′ work′ : List ℕ} {k : ℕ}
-    → Left r table work s mid way count → (f : State → State) → Left r mid way (f (stateIn r mid way count)) table′ work′ k
-    → Left r table work (f s) table′ work′ k
-left-then h f g = left-after refl refl h f g
+pub left-then : {r : Room} {table work : List ℕ} {s : State} {w mid way : List ℕ} {count : ℕ} {table′ work′ : List ℕ} {k : ℕ}
+    → Left r table work s w mid way count → (f : State → State) (g : State → List ℕ → List ℕ)
+    → After r f g mid way count table′ work′ k → Left r table work (f s) (g s w) table′ work′ k
+left-then h f g m = left-after refl refl h f g m
 
 -- what is lent stays lent, where points have been made
-pub lent-grown : {r : Room} (m : ℕ) {table work : List ℕ} {s : State} {table′ work′ : List ℕ} {count : ℕ} → m ≤ r .rows
-    → Lent r table work → Left (withMade r m) table work s table′ work′ count → Lent (withMade r m) table′ work′
+pub lent-grown : {r : Room} (m : ℕ) {table work : List ℕ} {s : State} {w table′ work′ : List ℕ} {count : ℕ} → m ≤ r .rows
+    → Lent r table work → Left (withMade r m) table work s w table′ work′ count → Lent (withMade r m) table′ work′
 lent-grown m l h k =
     record {
       some = h .some;
@@ -114,13 +127,13 @@ lent-grown m l h k =
       falls = k .falls;
     }
 
-pub left-lent : {r : Room} {table work : List ℕ} {s : State} {table′ work′ : List ℕ} {count : ℕ} → Lent r table work
-    → Left r table work s table′ work′ count → Lent r table′ work′
+pub left-lent : {r : Room} {table work : List ℕ} {s : State} {w table′ work′ : List ℕ} {count : ℕ} → Lent r table work
+    → Left r table work s w table′ work′ count → Lent r table′ work′
 left-lent {r} h k = lent-grown (r .made) (h .inside) h k
 
 -- where the stage and the room are kept
-pub fit-grown : {r : Room} (m : ℕ) {table work hand : List ℕ} {s : State} {table′ work′ : List ℕ} {count : ℕ} → m ≤ r .rows
-    → Lent r table work → Left (withMade r m) table work s table′ work′ count → Plain r hand s → Roomy s
+pub fit-grown : {r : Room} (m : ℕ) {table work hand : List ℕ} {s : State} {w table′ work′ : List ℕ} {count : ℕ} → m ≤ r .rows
+    → Lent r table work → Left (withMade r m) table work s w table′ work′ count → Plain r hand s → Roomy s
     → Fit (withMade r m) hand table′ work′ count
 fit-grown {r} m {hand = hand} l h k p q =
     record {
@@ -129,8 +142,8 @@ fit-grown {r} m {hand = hand} l h k p q =
       roomy = subst Roomy (sym (k .state)) q;
     }
 
-pub fit-left : {r : Room} {table work hand : List ℕ} {s : State} {table′ work′ : List ℕ} {count : ℕ} → Lent r table work
-    → Left r table work s table′ work′ count → Plain r hand s → Roomy s → Fit r hand table′ work′ count
+pub fit-left : {r : Room} {table work hand : List ℕ} {s : State} {w table′ work′ : List ℕ} {count : ℕ} → Lent r table work
+    → Left r table work s w table′ work′ count → Plain r hand s → Roomy s → Fit r hand table′ work′ count
 fit-left {r} h k p q = fit-grown (r .made) (h .inside) h k p q
 
 pub fit-usable : {r : Room} {hand table work : List ℕ} {count : ℕ} → Fit r hand table work count → Usable r table work count
@@ -155,13 +168,18 @@ module _ {r : Room} {table work : List ℕ} {count : ℕ} (h : Usable r table wo
       }
 
   pub left-united : {k : ℕ} {after : List ℕ} → United work (r .made) (r .rows) count p q k after
-      → Left r table work (united (stateIn r table work count) p q) table after k
+      → After r (λ s. united s p q) (λ s w. unitedWork (r .rows) s w p q) table work count table after k
+  unfolding unitedWork
   left-united {k} {after} u =
       record {
         state = united-state unite-ready u (cell (r .n) (r .rows) table) (r .made);
+        cells = u .cells ∙ ap (λ j. unitedCells (bothHalved work p q) (r .rows + j) (root p) (root q)) (sym (pending-length (drop (r .rows) work) count));
         falls = united-falls unite-ready u;
         table-same = refl;
         table-rest = refl;
         work-same = united-length unite-ready u;
         work-rest = united-behind unite-ready u (2 * r .rows) (omega (arith, h .lent .inside)) (omega (arith, h .spare));
       }
+    where
+      root : ℕ → ℕ
+      root = stateIn r table work count .root

@@ -1,3 +1,4 @@
 pub mod Finding
 pub mod Uniting
+pub mod WorkCells
 pub mod Rooms

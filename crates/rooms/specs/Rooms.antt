@@ -5,7 +5,9 @@
 --   Usable r table work count <-> so, and cells name points made, and one more point may become pending
 --   Plain r hand s        <-> s is a stage (engine, `Stages`), whatever the subgroup
 --   Fit r hand table work count <-> lent cells hold such a state, and the pending list has room
---   Left r table work s table′ work′ count <-> afterwards the cells hold s, and behind the room and the pending points what they held
+--   Left r table work s w table′ work′ count <-> afterwards the cells hold s, the work cells are w, and behind the room and the
+--                           pending points the cells are as they were
+--   After r f g table work count table′ work′ k <-> so, where f makes s of the state before, and g makes w of the work cells
 -- The first `rows` work cells are forward, the next `rows` pending. Assumes nothing.
 use mathlib.Core.Path.{_≡_}
 use mathlib.Core.List.{List, []}
@@ -49,10 +51,15 @@ pub record Fit (r : Room) (hand table work : List ℕ) (count : ℕ) : Type 0 wh
   pub stage : Plain r hand (stateIn r table work count)
   pub roomy : Roomy (stateIn r table work count)
 
-pub record Left (r : Room) (table work : List ℕ) (s : State) (table′ work′ : List ℕ) (count : ℕ) : Type 0 where
+pub record Left (r : Room) (table work : List ℕ) (s : State) (w table′ work′ : List ℕ) (count : ℕ) : Type 0 where
   pub state : stateIn r table′ work′ count ≡ s
+  pub cells : work′ ≡ w
   pub falls : Falls (forwardOf work′ (r .made))
   pub table-same : length table′ ≡ length table
   pub table-rest : drop (r .rows * (2 * r .n)) table′ ≡ drop (r .rows * (2 * r .n)) table
   pub work-same : length work′ ≡ length work
   pub work-rest : drop (2 * r .rows) work′ ≡ drop (2 * r .rows) work
+
+abbrev pub After : Room → (State → State) → (State → List ℕ → List ℕ) → List ℕ → List ℕ → ℕ → List ℕ → List ℕ → ℕ → Type 0
+After r f g table work count table′ work′ k =
+    Left r table work (f (stateIn r table work count)) (g (stateIn r table work count) work) table′ work′ k

@@ -25,7 +25,8 @@ use Rattle.engine.proofs.ChainLaws.{stage₁, grown-weight, chain-joinable, cha
 use Rattle.engine.proofs.FoldedTable.{usual-closed}
 use Rattle.rooms.specs.declared.Room.{Room}
 use Rattle.rooms.specs.Uniting.{United}
-use Rattle.rooms.specs.Rooms.{stateIn, withMade, Lent, Usable, Fit, Left}
+use Rattle.rooms.specs.WorkCells.{joinedWork, grownWork, chainedWork}
+use Rattle.rooms.specs.Rooms.{stateIn, withMade, Lent, Usable, Fit, Left, After}
 use Rattle.rooms.proofs.RoomLaws.{
   all-words,
   plain-stage,
@@ -40,7 +41,7 @@ use Rattle.rooms.proofs.RoomLaws.{
 }
 use Rattle.links.specs.Links.{Ends}
 use Rattle.takes.specs.declared.Grown.{Grown}
-use Rattle.takes.specs.Chains.{wordIn, part, Growing, grownBy, ChainFits, chainedBy, Chained}
+use Rattle.takes.specs.Chains.{wordIn, part, Growing, GrownIn, ChainFits, chainedBy, chainedCells, ClosedIn, Chained}
 
 -- ── Parts of a word ──
 
@@ -81,10 +82,11 @@ module _ {r : Room} {table work : List ℕ} {count at i : ℕ} (h : Growing r ta
       ap (forwardOf work₁) (add-one (r .made))
       ∙ fun-ext (forward-grown work (r .made) (omega (arith, h .room, h .fit .lent .room)))
 
-  grown-left : Left next table work (grown s) table work₁ count
+  grown-left : Left next table work (grown s) work₁ table work₁ count
   grown-left =
       record {
         state = state;
+        cells = refl;
         falls = subst Falls (sym forward-same) (h .fit .lent .falls);
         table-same = refl;
         table-rest = refl;
@@ -131,11 +133,13 @@ module _ {r : Room} {table work : List ℕ} {count at i : ℕ} (h : Growing r ta
       }
 
   pub grow-left : {table′ work′ : List ℕ} {k : ℕ}
-      → Left next table work₁ (joined (stateIn next table work₁ count) at (getD work₁ (2 * r .rows + i) 0) (r .made)) table′ work′ k
-      → Left next table work (grownBy r table work count at i) table′ work′ k
+      → After next (λ t. joined t at (getD work₁ (2 * r .rows + i) 0) (r .made))
+      (λ t v. joinedWork (r .rows) t v at (getD work₁ (2 * r .rows + i) 0) (r .made)) table work₁ count table′ work′ k
+      → GrownIn r table work count at i table′ work′ k
   grow-left m =
-      left-as (ap (λ y. joined (grown s) at y (r .made)) grow-letter)
-      (left-then grown-left (λ t. joined t at (getD work₁ (2 * r .rows + i) 0) (r .made)) m)
+      left-as (ap (λ y. joined (grown s) at y (r .made)) grow-letter) (ap (λ y. joinedWork (r .rows) (grown s) work₁ at y (r .made)) grow-letter)
+      (left-then grown-left (λ t. joined t at (getD work₁ (2 * r .rows + i) 0) (r .made))
+      (λ t v. joinedWork (r .rows) t v at (getD work₁ (2 * r .rows + i) 0) (r .made)) m)
 
 -- ── The end of a chain ──
 
@@ -146,12 +150,16 @@ module _ {r : Room} {table work : List ℕ} {count at b i end : ℕ} (h : ChainF
   long : end ≤ length (wordIn r work)
   long = omega (arith, word-long (h .fit .lent), h .place)
 
+  -- the letters l are chained
+  abbrev Closes : List ℕ → List ℕ → List ℕ → ℕ → Type 0
+  Closes l = After r (λ t. chained t at l b) (λ t v. chainedWork (r .rows) t v at l b) table work count
+
   -- no letter is left
   pub close-none : {k : ℕ} {after : List ℕ} → i ≡ end → United work (r .made) (r .rows) count at b k after
-      → Left r table work (chainedBy r table work count at b i end) table after k
-  unfolding chained
-  close-none e u =
-      left-as (ap (λ l. chained (stateIn r table work count) at l b) (sym (ap (part (wordIn r work) i) (sym e) ∙ part-none (wordIn r work) i (omega (arith, long)))))
+      → ClosedIn r table work count at b i end table after k
+  unfolding chained chainedWork
+  close-none {k} {after} e u =
+      subst (λ l. Closes l table after k) (sym (ap (part (wordIn r work) i) (sym e) ∙ part-none (wordIn r work) i (omega (arith, long))))
       (left-united close-usable at b (h .chainable .from) (h .chainable .to) u)
 
   -- the letters that are left
@@ -185,21 +193,23 @@ module _ {r : Room} {table work : List ℕ} {count at b i end : ℕ} (h : ChainF
         }
 
     pub close-letter : {table′ work′ : List ℕ} {k : ℕ}
-        → Left r table work (joined (stateIn r table work count) at (getD work (2 * r .rows + i) 0) b) table′ work′ k
-        → Left r table work (chainedBy r table work count at b i end) table′ work′ k
-    unfolding chained
-    close-letter m = left-as (ap (λ l. chained (stateIn r table work count) at l b) (sym one)) m
+        → After r (λ t. joined t at (getD work (2 * r .rows + i) 0) b) (λ t v. joinedWork (r .rows) t v at (getD work (2 * r .rows + i) 0) b)
+        table work count table′ work′ k
+        → ClosedIn r table work count at b i end table′ work′ k
+    unfolding chained chainedWork
+    close-letter {table′} {work′} {k} m = subst (λ l. Closes l table′ work′ k) (sym one) m
 
 -- ── The loop ──
 
 pub record Head (r : Room) (table₀ work₀ : List ℕ) (a b first end : ℕ) (made count at i : ℕ) (table work : List ℕ) : Type 0 where
   pub fits : ChainFits (withMade r made) table work count at b i end
-  pub left : Left (withMade r made) table₀ work₀ (stateIn (withMade r made) table work count) table work count
+  pub left : Left (withMade r made) table₀ work₀ (stateIn (withMade r made) table work count) work table work count
   pub ends : chainedBy (withMade r made) table work count at b i end ≡ chainedBy r table₀ work₀ 0 a b first end
+  pub cells : chainedCells (withMade r made) table work count at b i end ≡ chainedCells r table₀ work₀ 0 a b first end
 
 pub head-first : {r : Room} {table work : List ℕ} {a b first end : ℕ} → ChainFits r table work 0 a b first end
     → Head r table work a b first end (r .made) 0 a first table work
-head-first h = record { fits = h; left = left-first (h .fit .lent) 0; ends = refl }
+head-first h = record { fits = h; left = left-first (h .fit .lent) 0; ends = refl; cells = refl }
 
 module _ {r : Room} {table₀ work₀ : List ℕ} {a b first end made count at i : ℕ} {table work : List ℕ}
     (h : Head r table₀ work₀ a b first end made count at i table work) where
@@ -243,9 +253,12 @@ module _ {r : Room} {table₀ work₀ : List ℕ} {a b first end made count at i
           letter = letter-below (h .fits) (omega arith);
         }
 
-    module _ {table′ work′ : List ℕ} {k : ℕ} (m : Left (withMade r (made + 1)) table work (grownBy here table work count at i) table′ work′ k) where
+    module _ {table′ work′ : List ℕ} {k : ℕ} (m : GrownIn here table work count at i table′ work′ k) where
       abbrev grew : State
       grew = joined (grown now) at y made
+
+      abbrev grewCells : List ℕ
+      grewCells = joinedWork (r .rows) (grown now) (grownWork now work) at y made
 
       onward : Chainable (λ t. Unit {0}) (λ v. []) (usual (r .n)) grew made (z ∷ rest) b
       onward =
@@ -279,7 +292,7 @@ module _ {r : Room} {table₀ work₀ : List ℕ} {a b first end made count at i
           ∙ part-cons w (suc i) end (omega arith) (omega (arith, word-long (h .fits .fit .lent), h .fits .place))
 
       pub head-turn : Head r table₀ work₀ a b first end (made + 1) k made (i + 1) table′ work′
-      unfolding chained
+      unfolding chained chainedWork
       head-turn =
           record {
             fits =
@@ -290,16 +303,23 @@ module _ {r : Room} {table₀ work₀ : List ℕ} {a b first end made count at i
                   room = omega (arith, ap length part-next, ap length two, h .fits .room);
                   chainable = subst₂ (λ q t. Chainable (λ e. Unit {0}) (λ v. []) (usual (r .n)) q made t b) (sym (m .state)) (sym part-next) onward;
                 };
-            left = left-as (sym (m .state)) (left-after refl refl (h .left) (λ q. joined (grown q) at y made) m);
+            left = left-as (sym (m .state)) (sym (m .cells))
+                (left-after refl refl (h .left) (λ q. joined (grown q) at y made)
+                (λ q v. joinedWork (r .rows) (grown q) (set v made made) at y made) m);
             ends = subst₂ (λ q t. chained q made t b ≡ chainedBy r table₀ work₀ 0 a b first end) (sym (m .state)) (sym part-next) ahead;
+            cells = ap (λ q. chainedWork (r .rows) q work′ made (part (wordIn r work′) (i + 1) end) b) (m .state)
+                ∙ ap (λ t. chainedWork (r .rows) grew work′ made t b) part-next
+                ∙ ap (λ v. chainedWork (r .rows) grew v made (z ∷ rest) b) (m .cells)
+                ∙ ap (λ t. chainedWork (r .rows) now work at t b) (sym two)
+                ∙ h .cells;
           }
         where
           ahead : chained grew made (z ∷ rest) b ≡ chainedBy r table₀ work₀ 0 a b first end
           ahead = ap (λ t. chained now at t b) (sym two) ∙ h .ends
 
-  pub head-done : {table′ work′ : List ℕ} {k : ℕ}
-      → Left here table work (chainedBy here table work count at b i end) table′ work′ k
+  pub head-done : {table′ work′ : List ℕ} {k : ℕ} → ClosedIn here table work count at b i end table′ work′ k
       → Chained r table₀ work₀ 0 a b first end (record { made = made; count = k }) table′ work′
   head-done m =
-      let left = left-as (h .ends) (left-then (h .left) (λ q. chained q at (part w i end) b) m) in
+      let left = left-as (h .ends) (h .cells)
+      (left-then (h .left) (λ q. chained q at (part w i end) b) (λ q v. chainedWork (r .rows) q v at (part w i end) b) m) in
       record { made = ap (λ q. q .made) (left .state); left = left }

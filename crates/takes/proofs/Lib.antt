@@ -2,3 +2,4 @@
 pub mod ReadTurn
 pub mod ChainTurn
 pub mod TakeTurn
+pub mod Determined

@@ -34,15 +34,16 @@ use Rattle.engine.proofs.TakeLaws.{stage-chainable}
 use Rattle.engine.proofs.FoldLaws.{all-reduced, parts-read, middle-points}
 use Rattle.engine.proofs.FoldedTable.{usual-closed}
 use Rattle.rooms.specs.declared.Room.{Room}
-use Rattle.rooms.specs.Rooms.{stateIn, withMade, Lent, Plain, Fit, Left}
+use Rattle.rooms.specs.WorkCells.{drainedWork, chainedWork, takenWork}
+use Rattle.rooms.specs.Rooms.{stateIn, withMade, Lent, Plain, Fit, Left, After}
 use Rattle.rooms.proofs.RoomLaws.{all-words, plain-stage, left-as, left-then, fit-grown, fit-usable}
 use Rattle.takes.specs.declared.Stop.{Stop}
 use Rattle.takes.specs.declared.Grown.{Grown}
 use Rattle.takes.specs.declared.Circled.{Circled}
 use Rattle.takes.specs.declared.Taken.{Taken}
 use Rattle.takes.specs.Readings.{Readable, FrontOf, BackOf}
-use Rattle.takes.specs.Chains.{wordIn, part, ChainFits, chainedBy, Chained}
-use Rattle.takes.specs.Takes.{reducedIn, Takeable, circled, CircleOf, TakenIn}
+use Rattle.takes.specs.Chains.{wordIn, part, ChainFits, chainedBy, chainedCells, Chained}
+use Rattle.takes.specs.Takes.{reducedIn, circledCells, Takeable, circled, CircleOf, TakenIn}
 use Rattle.takes.proofs.ChainTurn.{usual-below, word-long}
 
 -- the letters of a word of n generators
@@ -79,7 +80,7 @@ module _ {r : Room} {text table work : List ℕ} (h : Takeable r text table work
 
   -- reducing the word behind the pending cells
   pub work-is : {d : Figures} {after : List ℕ} → ReducedInto text (take (length work - 2 * R) behindR) d after
-      → putMid (2 * R) (length work - 2 * R) work after ≡ reducedIn r text work
+      → putMid (2 * R) (length work - 2 * R) work after ≡ reducedIn R (firstWord text) work
   unfolding reducedIn
   work-is {d} {after} e =
       ap (λ l. take (2 * R) work ++ l)
@@ -100,7 +101,7 @@ module _ {r : Room} {text table work : List ℕ} (h : Takeable r text table work
   cells-parts = append-assoc word gone untaken
 
   -- as many cells as before
-  reduced-long : length (reducedIn r text work) ≡ length work
+  reduced-long : length (reducedIn R (firstWord text) work) ≡ length work
   unfolding reducedIn
   reduced-long =
       length-append (take (2 * R) work) (reducedCells (firstWord text) behindR)
@@ -119,7 +120,7 @@ module _ {r : Room} {text table work : List ℕ} (h : Takeable r text table work
         h .fit .lent .room,
       )
 
-  module _ {work₁ : List ℕ} (e₁ : work₁ ≡ reducedIn r text work) where
+  module _ {work₁ : List ℕ} (e₁ : work₁ ≡ reducedIn R (firstWord text) work) where
     k₁ : length work₁ ≡ length work
     k₁ = ap length e₁ ∙ reduced-long
 
@@ -242,6 +243,17 @@ module _ {r : Room} {text table work : List ℕ} (h : Takeable r text table work
               ∙ ap (λ m. chained (stateIn r table work 0) (front c word .point) m (b .point)) middle-is
               ∙ ap (chained (stateIn r table work 0) (front c word .point) middle) back-point
 
+          cells-are
+              : chainedCells r table work₁ 0 (f .point) (b .point) (f .count) (b .count)
+              ≡ circledCells R (stateIn r table work 0) work (firstWord text)
+          unfolding takenWork
+          cells-are =
+              ap (λ s. chainedWork R s work₁ (f .point) (part (wordIn r work₁) (f .count) (b .count)) (b .point)) state-same
+              ∙ ap (λ a. chainedWork R (stateIn r table work 0) work₁ a (part (wordIn r work₁) (f .count) (b .count)) (b .point)) (front-word .point)
+              ∙ ap (λ m. chainedWork R (stateIn r table work 0) work₁ (front c word .point) m (b .point)) middle-is
+              ∙ ap (chainedWork R (stateIn r table work 0) work₁ (front c word .point) middle) back-point
+              ∙ ap (λ l. chainedWork R (stateIn r table work 0) l (front c word .point) middle (behind c word .point)) e₁
+
           points : newPoints middle ≤ newPoints word
           points =
               omega (arith, ap length middle-is, length-drop (f .count) (take (b .count) (wordIn r work₁)), length-take (b .count) (wordIn r work₁), back-word .inside)
@@ -266,7 +278,8 @@ module _ {r : Room} {text table work : List ℕ} (h : Takeable r text table work
               record {
                 made = k .made ∙ ap (λ s. s .made) made-is;
                 letters = is;
-                left = subst (λ l. Left (withMade r (g .made)) table l (circled r text table work) table′ work′ (g .count)) e₁ (left-as made-is (k .left));
+                left = subst (λ l. Left (withMade r (g .made)) table l (circled r text table work)
+                    (circledCells R (stateIn r table work 0) work (firstWord text)) table′ work′ (g .count)) e₁ (left-as made-is cells-are (k .left));
               }
 
   -- ── The drain ──
@@ -283,9 +296,14 @@ module _ {r : Room} {text table work : List ℕ} (h : Takeable r text table work
         (fit-same refl .lent) (k .left) (plain-stage (chained-in .stage)) (omega (arith, chained-in .made, chained-in .weighs, h .fit .roomy))
 
     pub taken-is : {table″ work″ : List ℕ}
-        → Left (withMade r (g .made)) table′ work′ (drained (usual (r .n)) (stateIn (withMade r (g .made)) table′ work′ (g .count))) table″ work″ 0
+        → After (withMade r (g .made)) (drained (usual (r .n))) (drainedWork R (usual (r .n))) table′ work′ (g .count) table″ work″ 0
         → TakenIn r text table work (record { made = g .made; left = g .left }) table″ work″
-    taken-is m = record { made = k .made; letters = k .letters; left = left-then (k .left) (drained (usual (r .n))) m }
+    taken-is m =
+        record {
+          made = k .made;
+          letters = k .letters;
+          left = left-then (k .left) (drained (usual (r .n))) (drainedWork R (usual (r .n))) m;
+        }
 
   -- ── For callers ──
 

@@ -1,7 +1,9 @@
 -- A chain of new points on lent cells, cited by `grow`, `close` and `chain`.
 --   wordIn r work           == the cells where a word stands: those behind the forward and the pending cells
---   Growing, Closing        <-> what a link to a new point, and the last link of a chain, ask
+--   Growing, GrownIn        <-> what a link to a new point asks and leaves
 --   ChainFits, Chained      <-> what chaining the letters first .. end - 1 of those cells from a to b asks and leaves
+--   ClosedIn                <-> what the last link of a chain leaves
+--   chainedBy, chainedCells == the state, and the work cells, once they are chained
 -- Assumes nothing.
 use mathlib.Core.Path.{_≡_}
 use mathlib.Core.List.{List, []}
@@ -12,6 +14,7 @@ use Rattle.theory.specs.Graphs.{newPoints}
 use Rattle.engine.specs.Engine.{State, united, joined, grown, chained}
 use Rattle.engine.specs.Stages.{Chainable}
 use Rattle.rooms.specs.declared.Room.{Room}
+use Rattle.rooms.specs.WorkCells.{joinedWork, grownWork, chainedWork}
 use Rattle.rooms.specs.Rooms.{stateIn, withMade, Fit, Left}
 use Rattle.takes.specs.declared.Grown.{Grown}
 
@@ -29,8 +32,11 @@ pub record Growing (r : Room) (table work : List ℕ) (count at i : ℕ) : Type 
   pub place : i < r .rows
   pub letter : getD (wordIn r work) i 0 < 2 * r .n
 
-abbrev pub grownBy : Room → List ℕ → List ℕ → ℕ → ℕ → ℕ → State
-grownBy r table work count at i = joined (grown (stateIn r table work count)) at (getD (wordIn r work) i 0) (r .made)
+abbrev pub GrownIn : Room → List ℕ → List ℕ → ℕ → ℕ → ℕ → List ℕ → List ℕ → ℕ → Type 0
+GrownIn r table work count at i table′ work′ k =
+    Left (withMade r (r .made + 1)) table work (joined (grown (stateIn r table work count)) at (getD (wordIn r work) i 0) (r .made))
+    (joinedWork (r .rows) (grown (stateIn r table work count)) (grownWork (stateIn r table work count) work) at (getD (wordIn r work) i 0) (r .made))
+    table′ work′ k
 
 pub record ChainFits (r : Room) (table work : List ℕ) (count a b first end : ℕ) : Type 0 where
   pub fit : Fit r [] table work count
@@ -43,6 +49,15 @@ pub record ChainFits (r : Room) (table work : List ℕ) (count a b first end : �
 abbrev pub chainedBy : Room → List ℕ → List ℕ → ℕ → ℕ → ℕ → ℕ → ℕ → State
 chainedBy r table work count a b first end = chained (stateIn r table work count) a (part (wordIn r work) first end) b
 
+abbrev pub chainedCells : Room → List ℕ → List ℕ → ℕ → ℕ → ℕ → ℕ → ℕ → List ℕ
+chainedCells r table work count a b first end =
+    chainedWork (r .rows) (stateIn r table work count) work a (part (wordIn r work) first end) b
+
+abbrev pub ClosedIn : Room → List ℕ → List ℕ → ℕ → ℕ → ℕ → ℕ → ℕ → List ℕ → List ℕ → ℕ → Type 0
+ClosedIn r table work count a b first end =
+    Left r table work (chainedBy r table work count a b first end) (chainedCells r table work count a b first end)
+
 pub record Chained (r : Room) (table work : List ℕ) (count a b first end : ℕ) (g : Grown) (table′ work′ : List ℕ) : Type 0 where
   pub made : g .made ≡ chainedBy r table work count a b first end .made
-  pub left : Left (withMade r (g .made)) table work (chainedBy r table work count a b first end) table′ work′ (g .count)
+  pub left
+      : Left (withMade r (g .made)) table work (chainedBy r table work count a b first end) (chainedCells r table work count a b first end) table′ work′ (g .count)

@@ -3,9 +3,8 @@ ghost use mathlib.Core.Path.{_≡_};
 ghost use Prim.Native.Nat.{_+_, _≤_, _<_};
 ghost use lib.ListN.{length, take};
 ghost use Rattle.theory.specs.Tables.{cell};
-ghost use Rattle.rooms.specs.Rooms.{withMade, Left};
 ghost use Rattle.takes.specs.Readings.{Readable, FrontOf, BackOf};
-ghost use Rattle.takes.specs.Chains.{Growing, grownBy, ChainFits, Chained, chainedBy};
+ghost use Rattle.takes.specs.Chains.{Growing, GrownIn, ChainFits, Chained, ClosedIn};
 ghost use Rattle.takes.specs.Takes.{Takeable, CircleOf, TakenIn};
 use rooms::Room;
 
@@ -85,7 +84,7 @@ fn read_back(table: &[u32], word: &[u32], room: Room, first: usize, size: usize)
 // Makes a point, and joins `at` to it by the i-th letter of the word. Answers the new number of pending points.
 fn grow(table: &mut [u32], work: &mut [u32], room: Room, count: usize, at: u32, i: usize) -> usize
     requires { ⌜ Growing room (now table) (now work) count at i ⌝ }
-    ensures grown { λ r. ⌜ Left (withMade room (room .made + 1)) (now (table .entry)) (now (work .entry)) (grownBy room (now (table .entry)) (now (work .entry)) count at i) (now (table .exit)) (now (work .exit)) r ⌝ }
+    ensures grown { λ r. ⌜ GrownIn room (now (table .entry)) (now (work .entry)) count at i (now (table .exit)) (now (work .exit)) r ⌝ }
 {
     let made = room.made;
     let new = made as u32;
@@ -112,7 +111,7 @@ fn close(
 ) -> usize
     requires fits { ⌜ ChainFits room (now table) (now work) count at b i end ⌝ }
     requires { ⌜ end ≤ i + 1 ⌝ }
-    ensures closed { λ r. ⌜ Left room (now (table .entry)) (now (work .entry)) (chainedBy room (now (table .entry)) (now (work .entry)) count at b i end) (now (table .exit)) (now (work .exit)) r ⌝ }
+    ensures closed { λ r. ⌜ ClosedIn room (now (table .entry)) (now (work .entry)) count at b i end (now (table .exit)) (now (work .exit)) r ⌝ }
 {
     if i == end {
         return rooms::unite(work, room.made, room.rows, count, at, b);

@@ -20,7 +20,7 @@ cell-at-requires c κs = made-in (c .before .before .before .pre .0) _ _ (c .bef
 
 -- src/lib.rt:70:9
 unite-requires : tie.Need-unite-requires
-unite-requires c κs = (c .before .before .before .before .before .before .pre .0 .lent .falls, (holds-made (c .before .before .before .before .before .before .pre .0) _ _ _ (c .before .before .cell-at .ensures) (c .before .if1 .taken), c .before .before .before .before .before .before .pre .1 .to, c .before .before .before .before .before .before .pre .0 .lent .inside, omega (arith, c .before .before .before .before .before .before .pre .0 .spare, c .before .before .before .before .before .before .pre .0 .lent .room)))
+unite-requires c κs = (c .before .before .before .before .before .before .pre .0 .lent .falls, (omega (arith, holds-made (c .before .before .before .before .before .before .pre .0) _ _ _ (c .before .before .cell-at .ensures) (c .before .if1 .taken), c .before .before .before .before .before .before .pre .1 .to), omega (arith, holds-made (c .before .before .before .before .before .before .pre .0) _ _ _ (c .before .before .cell-at .ensures) (c .before .if1 .taken), c .before .before .before .before .before .before .pre .1 .to), c .before .before .before .before .before .before .pre .0 .lent .inside, omega (arith, c .before .before .before .before .before .before .pre .0 .spare, c .before .before .before .before .before .before .pre .0 .lent .room)))
 
 -- src/lib.rt:70:9
 same-length : tie.Need-same-length
