@@ -31,7 +31,7 @@ use Rattle.theory.proofs.PlaceLaws.{passes-fails, fails, ComesBefore, IsFirst, 
 use Rattle.theory.proofs.PathLaws.{Setting, usual-setting, spot, Step, leads-in, met, step-leads}
 use Rattle.theory.proofs.EdgeLaws.{isPathStep-sound, isPathStep-complete}
 use Rattle.tables.specs.Cells.{Inside}
-use Rattle.tables.proofs.CellTurn.{Sizes, sizes}
+use Rattle.tables.proofs.CellTurn.{Sizes, sizes, product-small}
 use Rattle.edges.specs.Edges.{Sound, isOutside}
 use Rattle.edges.specs.Steps.{placeBack, placeOf, stepPlace}
 
@@ -108,9 +108,19 @@ module _ {n N : ℕ} {t : List ℕ} (S : Sound n N t) where
       let b = S .canonical .inverse u j x l in
       back-there c N w x (inv j) (λ e. b .1 (sym (b .0) ∙ e)) ∙ ap (λ k. k * w + inv (inv j)) (b .0) ∙ ap (λ k. u * w + k) (letters .twice j)
 
-  inverse-small : (j : ℕ) → j < w → inv j < w
+  pub inverse-small : (j : ℕ) → j < 2 * n → inv j < 2 * n
   unfolding inv
   inverse-small j h = omega arith
+
+  -- the place back of a letter that leads somewhere, in parts, and how far it is
+  module _ (x z : ℕ) {u : ℕ} (q : u ≡ cell n N t x z) (m : u ≡ absent → ⊥) where
+    pub back-value : {i : ℕ} → i ≡ inv z → u * (2 * n) + i ≡ placeBack (cell n N t) N (2 * n) x z
+    back-value e = ap (λ k. u * w + k) e ∙ ap (λ k. k * w + inv z) q ∙ sym (back-there c N w x z (λ a. m (q ∙ a)))
+
+    pub back-small : u * (2 * n) + 2 * n ≤ 54526004
+    back-small =
+        let b = leads-small x z u (sym q, m) in
+        omega (arith, row-below N (2 * n) u (b .1), product-small n N (sound-sizes .letters) (sound-sizes .points))
 
   module _ {x z least : ℕ} (L : Least (cell n N t) N (2 * n) x z least) (hz : 2 * n ≤ z) (hx : x < N) where
     -- no cell that holds x stands before the least place

@@ -1,42 +1,34 @@
-use borrow.Author.Needs.{needs}
+-- `edges::pass_cell` meets its contract. Each way out is a case of the sweep (`TallyLaws`).
+-- Assumes nothing.
+use Rattle.edges.proofs.StepLaws.{sound-inside}
+use Rattle.edges.proofs.TallyLaws.{pass-absent, pass-new, pass-capital, pass-path, pass-outside, tally-small}
+use native.Mathlib.Omega.{arith}
 use Rattle.edges.proofs.pass_cell.Statement.{statement}
 use Rattle.edges.proofs.pass_cell.Tie as tie
-use Rattle.edges.proofs.pass_cell.Reads as reads
-use Rattle.edges.proofs.pass_cell.Lts as lts
-use Rattle.edges.proofs.place_back.Reads as place-back-reads
-use Rattle.tables.proofs.cell_at.Reads as cell-at-reads
 
--- src/lib.rt:82:9
 cell-at-requires : tie.Need-cell-at-requires
-cell-at-requires c κs = search needs
+cell-at-requires c κs = sound-inside (c .before .pre .0 .0) (c .before .pre .0 .1) (c .before .pre .0 .2)
 
--- src/lib.rt:84:9
 returns : tie.Need-returns
-returns c = search needs
+returns c = pass-absent (c .before .before .before .pre .0 .0) _ _ (c .before .before .before .pre .0 .1) (c .before .before .before .pre .0 .2) (c .before .before .before .pre .1) (c .before .cell-at .ensures) (c .if1 .taken)
 
--- src/lib.rt:87:9
 returns-2 : tie.Need-returns-2
-returns-2 c = search needs
+returns-2 c = pass-new (c .before .before .before .before .pre .0 .0) _ _ (c .before .before .before .before .pre .0 .1) (c .before .before .before .before .pre .0 .2) (c .before .before .before .before .pre .1) (c .before .before .cell-at .ensures) (c .before .if1 .left) (c .if2 .taken)
 
--- src/lib.rt:90:9
 returns-3 : tie.Need-returns-3
-returns-3 c = search needs
+returns-3 c = pass-capital (c .before .before .before .before .before .pre .0 .0) _ _ (c .before .before .before .before .before .pre .0 .1) (c .before .before .before .before .before .pre .0 .2) (c .before .before .before .before .before .pre .1) (c .before .before .before .cell-at .ensures) (c .before .before .if1 .left) (c .before .if2 .left) (c .if3 .taken)
 
--- src/lib.rt:92:8
 place-back-requires : tie.Need-place-back-requires
-place-back-requires c κs = search needs
+place-back-requires c κs = ((c .before .before .before .before .before .pre .0 .0), (c .before .before .before .before .before .pre .0 .1), (c .before .before .before .before .before .pre .0 .2))
 
--- src/lib.rt:93:9
 returns-4 : tie.Need-returns-4
-returns-4 c = search needs
+returns-4 c = pass-path (c .before .before .before .before .before .before .before .pre .0 .0) _ _ (c .before .before .before .before .before .before .before .pre .0 .1) (c .before .before .before .before .before .before .before .pre .0 .2) (c .before .before .before .before .before .before .before .pre .1) (c .before .before .before .before .before .cell-at .ensures) (c .before .before .before .before .if1 .left) (c .before .before .before .if2 .left) (c .before .place-back .ensures) (c .before .before .before .before .before .before .before .pre .0 .3) (c .if4 .taken)
 
--- src/lib.rt:97:16
 add-t12 : tie.Need-add-t12
-add-t12 c = search needs
+add-t12 c = omega (arith, tally-small (c .before .before .before .before .before .before .before .pre .0 .0) (c .before .before .before .before .before .before .before .pre .1) (c .before .before .before .before .before .before .before .pre .0 .1) (c .before .before .before .before .before .before .before .pre .0 .2))
 
--- src/lib.rt:75:1
 returns-5 : tie.Need-returns-5
-returns-5 c = search needs
+returns-5 c = pass-outside (c .before .before .before .before .before .before .before .pre .0 .0) _ _ (c .before .before .before .before .before .before .before .pre .0 .1) (c .before .before .before .before .before .before .before .pre .0 .2) (c .before .before .before .before .before .before .before .pre .1) (c .before .before .before .before .before .cell-at .ensures) (c .before .before .before .before .if1 .left) (c .before .before .before .if2 .left) (c .before .place-back .ensures) (c .before .before .before .before .before .before .before .pre .0 .3) (c .before .before .if3 .left) (c .if4 .left)
 
 pub pass-cell-spec : {M : Type 1} → statement M
 pass-cell-spec =

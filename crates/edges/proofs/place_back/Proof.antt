@@ -1,54 +1,46 @@
+-- `edges::place_back` meets its contract. The letter leads nowhere, or somewhere (`StepLaws`); places stay small.
+-- Assumes nothing.
+use Rattle.tables.proofs.CellTurn.{product-small}
+use Rattle.edges.proofs.StepLaws.{sound-sizes, sound-inside, back-absent, back-small, inverse-small, back-value}
+use mathlib.Core.Path.{_∙_, sym, ap}
+use Prim.Native.Nat.{_+_, _*_}
+use native.Mathlib.Omega.{arith}
 use borrow.Author.Needs.{needs}
 use Rattle.edges.proofs.place_back.Statement.{statement}
 use Rattle.edges.proofs.place_back.Tie as tie
-use Rattle.edges.proofs.place_back.Reads as reads
-use Rattle.edges.proofs.place_back.Lts as lts
-use Rattle.letters.proofs.inverse.Reads as inverse-reads
-use Rattle.tables.proofs.cell_at.Reads as cell-at-reads
 
--- src/lib.rt:28:13
 mul-w : tie.Need-mul-w
-mul-w c = search needs
+mul-w c = omega (arith, (sound-sizes (c .before .pre .0)) .letters)
 
--- src/lib.rt:29:9
 cell-at-requires : tie.Need-cell-at-requires
-cell-at-requires c κs = search needs
+cell-at-requires c κs = sound-inside (c .before .pre .0) (c .before .pre .1) (c .before .pre .2)
 
--- src/lib.rt:31:16
 mul-result : tie.Need-mul-result
-mul-result c = search needs
+mul-result c = omega (arith, product-small _ _ ((sound-sizes (c .before .before .before .pre .0)) .letters) ((sound-sizes (c .before .before .before .pre .0)) .points))
 
--- src/lib.rt:31:9
 returns : tie.Need-returns
-returns c = search needs
+returns c = sym (back-absent _ _ _ _ _ (sym (c .before .cell-at .ensures) ∙ (c .if1 .taken)))
 
--- src/lib.rt:33:6
 cast-result : tie.Need-cast-result
 cast-result c = search needs
 
--- src/lib.rt:33:5
 mul-result-2 : tie.Need-mul-result-2
-mul-result-2 c = search needs
+mul-result-2 c = omega (arith, back-small (c .before .before .before .pre .0) _ _ (c .before .cell-at .ensures) (c .if1 .left))
 
--- src/lib.rt:33:41
 cast-inverse : tie.Need-cast-inverse
-cast-inverse c = search needs
+cast-inverse c = omega (arith, (sound-sizes (c .before .before .before .pre .0)) .letters, (c .before .before .before .pre .2))
 
--- src/lib.rt:33:24
 inverse-requires : tie.Need-inverse-requires
 inverse-requires c κs = search needs
 
--- src/lib.rt:33:24
 cast-result-2 : tie.Need-cast-result-2
 cast-result-2 c = search needs
 
--- src/lib.rt:33:5
 add-result : tie.Need-add-result
-add-result c = search needs
+add-result c = omega (arith, back-small (c .before .before .before .before .pre .0) _ _ (c .before .before .cell-at .ensures) (c .before .if1 .left), (c .inverse .ensures), inverse-small (c .before .before .before .before .pre .0) _ (c .before .before .before .before .pre .2), (sound-sizes (c .before .before .before .before .pre .0)) .letters)
 
--- src/lib.rt:24:1
 returns-2 : tie.Need-returns-2
-returns-2 c = search needs
+returns-2 c = back-value (c .before .before .before .before .pre .0) _ _ (c .before .before .cell-at .ensures) (c .before .if1 .left) (c .inverse .ensures)
 
 pub place-back-spec : {M : Type 1} → statement M
 place-back-spec =

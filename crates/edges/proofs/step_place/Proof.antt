@@ -1,59 +1,53 @@
+-- `edges::step_place` meets its contract. The loop: the least place back by the letters passed (`StepLaws`).
+-- Assumes nothing.
+use Rattle.theory.specs.Tables.{cell}
+use Rattle.tables.proofs.CellTurn.{product-small}
+use Rattle.edges.proofs.StepLaws.{sound-sizes, Least, least-first, least-lower, least-keep, least-done, base-place}
+use mathlib.Core.Path.{refl}
+use Prim.Native.Nat.{_-_, _*_}
+use native.Mathlib.Omega.{arith}
 use borrow.Author.Needs.{needs}
 use Rattle.edges.proofs.step_place.Statement.{statement}
 use Rattle.edges.proofs.step_place.Tie as tie
-use Rattle.edges.proofs.step_place.Reads as reads
-use Rattle.edges.proofs.step_place.Lts as lts
-use Rattle.edges.proofs.place_back.Reads as place-back-reads
 
 abbrev Inv-loop : tie.InvT-loop
-Inv-loop s table x w least₀ z₀ least z = ?
+Inv-loop s table x w least₀ z₀ least z = Least (cell (s .n) (s .points) table) (s .points) (2 * s .n) x z least
 
 abbrev μ-loop : tie.MeasureT-loop
-μ-loop s table x w least₀ z₀ least z = ?
+μ-loop s table x w least₀ z₀ least z = w - z
 
--- src/lib.rt:41:13
 mul-w : tie.Need-mul-w Inv-loop μ-loop
-mul-w c = search needs
+mul-w c = omega (arith, (sound-sizes (c .before .pre .0)) .letters)
 
--- src/lib.rt:42:21
 mul-least : tie.Need-mul-least Inv-loop μ-loop
-mul-least c = search needs
+mul-least c = omega (arith, product-small _ _ ((sound-sizes (c .before .pre .0)) .letters) ((sound-sizes (c .before .pre .0)) .points))
 
--- src/lib.rt:44:9
 returns : tie.Need-returns Inv-loop μ-loop
-returns c = search needs
+returns c = base-place (c .before .before .pre .0) refl (c .if1 .taken)
 
--- src/lib.rt:47:5
 loop-holds : tie.Need-loop-holds Inv-loop μ-loop
-loop-holds c = search needs
+loop-holds c = least-first _ _ _ _ refl
 
--- src/lib.rt:48:13
 place-back-requires : tie.Need-place-back-requires Inv-loop μ-loop
-place-back-requires c κs = search needs
+place-back-requires c κs = ((c .before .before .before .before .pre .0), (c .before .before .before .before .pre .1), (c .loop-test .taken))
 
--- src/lib.rt:49:9
 add-z : tie.Need-add-z Inv-loop μ-loop
-add-z c = search needs
+add-z c = omega (arith, (sound-sizes (c .before .before .before .before .before .pre .0)) .letters, (c .before .loop-test .taken))
 
--- src/lib.rt:47:5
 loop-less : tie.Need-loop-less Inv-loop μ-loop
 loop-less c = search needs
 
--- src/lib.rt:47:5
 loop-again : tie.Need-loop-again Inv-loop μ-loop
-loop-again c = search needs
+loop-again c = least-lower _ _ _ _ (c .before .before .before .loop .inv) (c .before .before .loop-test .taken) (c .before .place-back .ensures) (c .if2 .taken)
 
--- src/lib.rt:47:5
 loop-less-2 : tie.Need-loop-less-2 Inv-loop μ-loop
 loop-less-2 c = search needs
 
--- src/lib.rt:47:5
 loop-again-2 : tie.Need-loop-again-2 Inv-loop μ-loop
-loop-again-2 c = search needs
+loop-again-2 c = least-keep _ _ _ _ (c .before .before .before .loop .inv) (c .before .before .loop-test .taken) (c .before .place-back .ensures) (c .if2 .left)
 
--- src/lib.rt:37:1
 returns-2 : tie.Need-returns-2 Inv-loop μ-loop
-returns-2 c = search needs
+returns-2 c = least-done (c .before .before .before .before .pre .0) (c .before .loop .inv) (c .loop-test .left) (c .before .before .before .before .pre .1) (c .before .before .if1 .left)
 
 pub step-place-spec : {M : Type 1} → statement M
 step-place-spec =
