@@ -180,6 +180,11 @@ module _ {n N : ℕ} {t : List ℕ} (S : Sound n N t) where
 
   -- ── The number of an edge ──
 
+  -- the edges outside the paths are those of all spots
+  outside-all : outsideEdges c N (usual n) ≡ outsideIn c N (usual n) (scan N (usual n))
+  unfolding outsideEdges edgesOf outsideIn isOutside
+  outside-all = refl
+
   -- a row of the scan, and what stands behind it
   scan-parts : (ys : List ℕ) (M v : ℕ) → v < M → (rest : List Spot) × (scan M ys ≡ scan v ys ++ (spotsOf ys v ++ rest))
   unfolding scan
@@ -213,13 +218,10 @@ module _ {n N : ℕ} {t : List ℕ} (S : Sound n N t) where
     outside-parts e o =
         let r = spot-parts in (
           outsideIn c N (usual n) (r .0),
-          all ∙ ap (outsideIn c N (usual n)) (r .1)
+          outside-all ∙ ap (outsideIn c N (usual n)) (r .1)
               ∙ outside-append c N (usual n) (spotsTo (usual n) v y) (spot v y ∷ r .0)
               ∙ ap (λ l. outsideIn c N (usual n) (spotsTo (usual n) v y) ++ l) (outside-first c N (usual n) (spot v y) (r .0) e o),
         )
-      where
-        all : outsideEdges c N (usual n) ≡ outsideIn c N (usual n) (scan N (usual n))
-        all = unfold (outsideEdges, edgesOf, outsideIn, isOutside) in refl
 
     pub number-is : {tally : Tally} → isEdge (cell n N t) (spot v y) ≡ true → isOutside (cell n N t) N (usual n) v y ≡ true
         → tally ≡ tallyAt (cell n N t) N (usual n) v y → tally .edges + 1 ≡ numberIn (outsideEdges (cell n N t) N (usual n)) 1 v y

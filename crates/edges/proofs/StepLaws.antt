@@ -112,15 +112,17 @@ module _ {n N : ℕ} {t : List ℕ} (S : Sound n N t) where
   unfolding inv
   inverse-small j h = omega arith
 
+  -- no place of a row is far
+  pub row-near : (v : ℕ) → v < N → v * (2 * n) + 2 * n ≤ 54526004
+  row-near v h = omega (arith, row-below N (2 * n) v h, product-small n N (sound-sizes .letters) (sound-sizes .points))
+
   -- the place back of a letter that leads somewhere, in parts, and how far it is
   module _ (x z : ℕ) {u : ℕ} (q : u ≡ cell n N t x z) (m : u ≡ absent → ⊥) where
     pub back-value : {i : ℕ} → i ≡ inv z → u * (2 * n) + i ≡ placeBack (cell n N t) N (2 * n) x z
     back-value e = ap (λ k. u * w + k) e ∙ ap (λ k. k * w + inv z) q ∙ sym (back-there c N w x z (λ a. m (q ∙ a)))
 
     pub back-small : u * (2 * n) + 2 * n ≤ 54526004
-    back-small =
-        let b = leads-small x z u (sym q, m) in
-        omega (arith, row-below N (2 * n) u (b .1), product-small n N (sound-sizes .letters) (sound-sizes .points))
+    back-small = row-near u (leads-small x z u (sym q, m) .1)
 
   module _ {x z least : ℕ} (L : Least (cell n N t) N (2 * n) x z least) (hz : 2 * n ≤ z) (hx : x < N) where
     -- no cell that holds x stands before the least place

@@ -1,55 +1,43 @@
+-- `edges::is_outside` meets its contract. A loop, an edge to a smaller point, or one to a greater (`StepLaws`).
+-- Assumes nothing.
+use Rattle.edges.proofs.StepLaws.{sound-sizes, sound-inside, row-near, target-small, outside-loop, outside-back, outside-forth}
+use native.Mathlib.Omega.{arith}
 use borrow.Author.Needs.{needs}
 use Rattle.edges.proofs.is_outside.Statement.{statement}
 use Rattle.edges.proofs.is_outside.Tie as tie
-use Rattle.edges.proofs.is_outside.Reads as reads
-use Rattle.edges.proofs.is_outside.Lts as lts
-use Rattle.edges.proofs.place_back.Reads as place-back-reads
-use Rattle.edges.proofs.step_place.Reads as step-place-reads
-use Rattle.tables.proofs.cell_at.Reads as cell-at-reads
 
--- src/lib.rt:63:9
 cell-at-requires : tie.Need-cell-at-requires
-cell-at-requires c κs = search needs
+cell-at-requires c κs = sound-inside (c .before .pre .0) (c .before .pre .1) (c .before .pre .2)
 
--- src/lib.rt:65:9
 returns : tie.Need-returns
-returns c = search needs
+returns c = outside-loop (c .before .before .before .pre .0) _ _ (c .before .cell-at .ensures) (c .before .before .before .pre .3) (c .if1 .taken)
 
--- src/lib.rt:68:16
 place-back-requires : tie.Need-place-back-requires
-place-back-requires c κs = search needs
+place-back-requires c κs = ((c .before .before .before .before .pre .0), (c .before .before .before .before .pre .1), (c .before .before .before .before .pre .2))
 
--- src/lib.rt:68:58
 step-place-requires : tie.Need-step-place-requires
-step-place-requires c κs = search needs
+step-place-requires c κs = ((c .before .before .before .before .before .pre .0), (c .before .before .before .before .before .pre .1))
 
--- src/lib.rt:68:9
 returns-2 : tie.Need-returns-2
-returns-2 c = search needs
+returns-2 c = outside-back (c .before .before .before .before .before .before .pre .0) _ _ (c .before .before .before .before .cell-at .ensures) (c .before .before .before .before .before .before .pre .3) (c .before .before .if2 .taken) (c .before .place-back .ensures) (c .step-place .ensures)
 
--- src/lib.rt:70:13
 mul-w : tie.Need-mul-w
-mul-w c = search needs
+mul-w c = omega (arith, (sound-sizes (c .before .before .before .before .pre .0)) .letters)
 
--- src/lib.rt:71:5
 mul-result : tie.Need-mul-result
-mul-result c = search needs
+mul-result c = omega (arith, row-near (c .before .before .before .before .pre .0) _ (c .before .before .before .before .pre .1))
 
--- src/lib.rt:71:5
 add-result : tie.Need-add-result
-add-result c = search needs
+add-result c = omega (arith, row-near (c .before .before .before .before .pre .0) _ (c .before .before .before .before .pre .1), (c .before .before .before .before .pre .2))
 
--- src/lib.rt:71:51
 cast-step-place : tie.Need-cast-step-place
 cast-step-place c = search needs
 
--- src/lib.rt:71:30
 step-place-requires-2 : tie.Need-step-place-requires-2
-step-place-requires-2 c κs = search needs
+step-place-requires-2 c κs = ((c .before .before .before .before .pre .0), target-small (c .before .before .before .before .pre .0) _ _ (c .before .before .cell-at .ensures) (c .before .before .before .before .pre .3))
 
--- src/lib.rt:58:1
 returns-3 : tie.Need-returns-3
-returns-3 c = search needs
+returns-3 c = outside-forth (c .before .before .before .before .before .pre .0) _ _ (c .before .before .before .cell-at .ensures) (c .before .before .before .before .before .pre .3) (c .before .if2 .left) (c .step-place2 .ensures)
 
 pub is-outside-spec : {M : Type 1} → statement M
 is-outside-spec =
