@@ -44,13 +44,13 @@ module _ (N k : ℕ) where
   -- the runs reach behind the last row
   runs-reach : N < (k + 1) * runOf N k
   unfolding runOf
-  runs-reach = lt-mul-div-succ N {k + 1} (omega arith)
+  runs-reach = lt-mul-div-succ N {b = k + 1} (omega arith)
 
   row-is : (j : ℕ) → markRow N k j ≡ min (j * runOf N k) N
   unfolding markRow runOf
   row-is j = refl
 
-  module _ {j run : ℕ} (q : run ≡ runOf N k) where
+  module _ (j : ℕ) {run : ℕ} (q : run ≡ runOf N k) where
     pub row-small : N ≤ 1048577 → j ≤ 1048576 → j * run ≤ 1099514773504
     row-small h l =
         let b : run ≤ 1048578 = omega (arith, q, run-is, run-small) in omega (arith, mul-le-mul l b)
@@ -167,11 +167,11 @@ module _ {n N : ℕ} {t : List ℕ} (S : Sound n N t) where
 
   -- ── Marks found ──
 
-  pub found-mark : {work : List ℕ} (k j : ℕ) → take (2 * k) work ≡ marksOf (cell n N t) N (usual n) k k → j ≤ k
+  pub found-mark : (work : List ℕ) (k j : ℕ) → take (2 * k) work ≡ marksOf (cell n N t) N (usual n) k k → j ≤ k
       → found work j ≡ tallyBefore (cell n N t) N (usual n) (markRow N k j)
   unfolding found
-  found-mark {work} k zero e h = tally-start S ∙ ap (tallyBefore c N (usual n)) (row-first N k)
-  found-mark {work} k (suc j) e h =
+  found-mark work k zero e h = tally-start S ∙ ap (tallyBefore c N (usual n)) (row-first N k)
+  found-mark work k (suc j) e h =
       let r = marks-hold c N (usual n) k k j (omega arith) in
       tally-eq (there (2 * j) (omega arith) ∙ r .0) (there (2 * j + 1) (omega arith) ∙ r .1)
     where
