@@ -37,7 +37,7 @@ module _ (N k : ℕ) where
   unfolding runOf
   run-is = refl
 
-  run-positive : 1 ≤ runOf N k
+  pub run-positive : 1 ≤ runOf N k
   unfolding runOf
   run-positive = omega arith
 

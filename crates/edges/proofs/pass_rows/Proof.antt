@@ -1,43 +1,42 @@
-use borrow.Author.Needs.{needs}
+-- `edges::pass_rows` meets its contract. The loop: the tally before row v (`TallyLaws`).
+-- Assumes nothing.
+use Rattle.theory.specs.Letters.{usual}
+use Rattle.theory.specs.Tables.{cell}
+use Rattle.edges.specs.Edges.{tallyBefore}
+use Rattle.edges.proofs.StepLaws.{sound-sizes}
+use Rattle.edges.proofs.TallyLaws.{tally-whole}
+use mathlib.Core.Path.{_≡_, _∙_, ap}
+use Prim.Native.Nat.{_-_, _≤_, _<_}
+use native.Mathlib.Omega.{arith}
 use Rattle.edges.proofs.pass_rows.Statement.{statement}
 use Rattle.edges.proofs.pass_rows.Tie as tie
-use Rattle.edges.proofs.pass_rows.Reads as reads
-use Rattle.edges.proofs.pass_rows.Lts as lts
-use Rattle.edges.proofs.pass_cells.Reads as pass-cells-reads
 
 abbrev Inv-loop : tie.InvT-loop
-Inv-loop s table from to w sum₀ v₀ sum v = ?
+Inv-loop s table from to w sum₀ v₀ sum v = (v ≤ to) × (sum ≡ tallyBefore (cell (s .n) (s .points) table) (s .points) (usual (s .n)) v)
 
 abbrev μ-loop : tie.MeasureT-loop
-μ-loop s table from to w sum₀ v₀ sum v = ?
+μ-loop s table from to w sum₀ v₀ sum v = to - v
 
--- src/lib.rt:123:13
 mul-w : tie.Need-mul-w Inv-loop μ-loop
-mul-w c = search needs
+mul-w c = omega (arith, (sound-sizes (c .before .pre .0 .0)) .letters)
 
--- src/lib.rt:126:5
 loop-holds : tie.Need-loop-holds Inv-loop μ-loop
-loop-holds c = search needs
+loop-holds c = ((c .before .pre .0 .1), (c .before .pre .1))
 
--- src/lib.rt:127:9
 pass-cells-requires : tie.Need-pass-cells-requires Inv-loop μ-loop
-pass-cells-requires c κs = search needs
+pass-cells-requires c κs = (((c .before .before .before .pre .0 .0), omega (arith, (c .loop-test .taken), (c .before .before .before .pre .0 .2)), omega arith), (c .before .loop .inv .1))
 
--- src/lib.rt:128:9
 add-v : tie.Need-add-v Inv-loop μ-loop
-add-v c = search needs
+add-v c = omega (arith, (sound-sizes (c .before .before .before .before .pre .0 .0)) .points, (c .before .loop-test .taken), (c .before .before .before .before .pre .0 .2))
 
--- src/lib.rt:126:5
 loop-less : tie.Need-loop-less Inv-loop μ-loop
-loop-less c = search needs
+loop-less c = omega (arith, (c .before .loop-test .taken))
 
--- src/lib.rt:126:5
 loop-again : tie.Need-loop-again Inv-loop μ-loop
-loop-again c = search needs
+loop-again c = (omega (arith, (c .before .loop-test .taken)), (c .pass-cells .ensures) ∙ tally-whole (c .before .before .before .before .pre .0 .0) _)
 
--- src/lib.rt:118:1
 returns : tie.Need-returns Inv-loop μ-loop
-returns c = search needs
+returns c = (c .before .loop .inv .1) ∙ ap (tallyBefore _ _ _) (omega (arith, (c .before .loop .inv .0), (c .loop-test .left)))
 
 pub pass-rows-spec : {M : Type 1} → statement M
 pass-rows-spec =
