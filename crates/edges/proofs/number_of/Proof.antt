@@ -22,7 +22,7 @@ find-requires : tie.Need-find-requires
 find-requires c κs = let m = mark-near _ _ (c .before .run-of .ensures) (c .before .before .before .before .pre .0 .3) in (omega (arith, m .0, (c .before .before .before .before .pre .0 .1)), omega (arith, m .0, (c .before .before .before .before .pre .0 .2)))
 
 pass-rows-requires : tie.Need-pass-rows-requires
-pass-rows-requires c κs = let m = mark-near _ _ (c .before .before .run-of .ensures) (c .before .before .before .before .before .pre .0 .3) in (((c .before .before .before .before .before .pre .0 .0), omega (arith, (c .before .mark-row .ensures), m .1), omega (arith, (c .before .before .before .before .before .pre .0 .3))), (c .find .ensures) ∙ found-mark (c .before .before .before .before .before .pre .0 .0) (c .before .before .before .before .before .args .work .now) _ _ (c .before .before .before .before .before .pre .1) (m .0) ∙ ap (tallyBefore _ _ _) (sym (c .before .mark-row .ensures)))
+pass-rows-requires c κs = let m = mark-near _ _ (c .before .before .run-of .ensures) (c .before .before .before .before .before .pre .0 .3) in (((c .before .before .before .before .before .pre .0 .0), omega (arith, (c .before .mark-row .ensures), m .1), omega (arith, (c .before .before .before .before .before .pre .0 .3))), (c .find .ensures) ∙ found-mark (c .before .before .before .before .before .pre .0 .0) (c .before .before .before .before .before .args .work .now) (c .before .before .before .before .before .args .marks) _ (c .before .before .before .before .before .pre .1 .0) (m .0) ∙ ap (tallyBefore _ _ _) (sym (c .before .mark-row .ensures)))
 
 pass-cells-requires : tie.Need-pass-cells-requires
 pass-cells-requires c κs = (((c .before .before .before .before .before .before .pre .0 .0), (c .before .before .before .before .before .before .pre .0 .3), omega (arith, (c .before .before .before .before .before .before .pre .0 .4))), (c .pass-rows .ensures))
@@ -31,7 +31,7 @@ add-result : tie.Need-add-result
 add-result c = omega (arith, tally-small (c .before .before .before .before .before .before .before .before .pre .0 .0) (c .before .pass-cells .ensures) (c .before .before .before .before .before .before .before .before .pre .0 .3) (c .before .before .before .before .before .before .before .before .pre .0 .4))
 
 returns : tie.Need-returns
-returns c = (number-is (c .before .before .before .before .before .before .before .before .pre .0 .0) _ _ (c .before .before .before .before .before .before .before .before .pre .0 .3) (c .before .before .before .before .before .before .before .before .pre .0 .4) (c .before .before .before .before .before .before .before .before .pre .2 .0) (c .before .before .before .before .before .before .before .before .pre .2 .1) (c .before .pass-cells .ensures), (omega arith, tally-small (c .before .before .before .before .before .before .before .before .pre .0 .0) (c .before .pass-cells .ensures) (c .before .before .before .before .before .before .before .before .pre .0 .3) (c .before .before .before .before .before .before .before .before .pre .0 .4)))
+returns c = (number-is (c .before .before .before .before .before .before .before .before .pre .0 .0) _ _ (c .before .before .before .before .before .before .before .before .pre .0 .3) (c .before .before .before .before .before .before .before .before .pre .0 .4) (c .before .before .before .before .before .before .before .before .pre .1 .1 .0) (c .before .before .before .before .before .before .before .before .pre .1 .1 .1) (c .before .pass-cells .ensures), (omega arith, tally-small (c .before .before .before .before .before .before .before .before .pre .0 .0) (c .before .pass-cells .ensures) (c .before .before .before .before .before .before .before .before .pre .0 .3) (c .before .before .before .before .before .before .before .before .pre .0 .4)))
 
 pub number-of-spec : {M : Type 1} → statement M
 number-of-spec =
