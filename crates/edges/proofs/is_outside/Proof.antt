@@ -19,7 +19,7 @@ step-place-requires : tie.Need-step-place-requires
 step-place-requires c κs = ((c .before .before .before .before .before .pre .0), (c .before .before .before .before .before .pre .1))
 
 returns-2 : tie.Need-returns-2
-returns-2 c = outside-back (c .before .before .before .before .before .before .pre .0) _ _ (c .before .before .before .before .cell-at .ensures) (c .before .before .before .before .before .before .pre .3) (c .before .before .if2 .taken) (c .before .place-back .ensures) (c .step-place .ensures)
+returns-2 c = outside-back (c .before .before .before .before .before .before .pre .0) _ _ (c .before .before .before .before .cell-at .ensures) (c .before .before .before .before .before .before .pre .3) (omega (arith, (c .before .before .if2 .taken))) (c .before .place-back .ensures) (c .step-place .ensures)
 
 mul-w : tie.Need-mul-w
 mul-w c = omega (arith, (sound-sizes (c .before .before .before .before .pre .0)) .letters)
@@ -37,7 +37,7 @@ step-place-requires-2 : tie.Need-step-place-requires-2
 step-place-requires-2 c κs = ((c .before .before .before .before .pre .0), target-small (c .before .before .before .before .pre .0) _ _ (c .before .before .cell-at .ensures) (c .before .before .before .before .pre .3))
 
 returns-3 : tie.Need-returns-3
-returns-3 c = outside-forth (c .before .before .before .before .before .pre .0) _ _ (c .before .before .before .cell-at .ensures) (c .before .before .before .before .before .pre .3) (c .before .if2 .left) (c .step-place2 .ensures)
+returns-3 c = outside-forth (c .before .before .before .before .before .pre .0) _ _ (c .before .before .before .cell-at .ensures) (c .before .before .before .before .before .pre .3) (omega (arith, (c .before .if2 .left))) (c .step-place2 .ensures)
 
 pub is-outside-spec : {M : Type 1} → statement M
 is-outside-spec =

@@ -31,7 +31,10 @@ add-result : tie.Need-add-result
 add-result c = omega (arith, tally-small (c .before .before .before .before .before .before .before .before .pre .0 .0) (c .before .pass-cells .ensures) (c .before .before .before .before .before .before .before .before .pre .0 .3) (c .before .before .before .before .before .before .before .before .pre .0 .4))
 
 returns : tie.Need-returns
-returns c = (number-is (c .before .before .before .before .before .before .before .before .pre .0 .0) _ _ (c .before .before .before .before .before .before .before .before .pre .0 .3) (c .before .before .before .before .before .before .before .before .pre .0 .4) (c .before .before .before .before .before .before .before .before .pre .1 .1 .0) (c .before .before .before .before .before .before .before .before .pre .1 .1 .1) (c .before .pass-cells .ensures), (omega arith, tally-small (c .before .before .before .before .before .before .before .before .pre .0 .0) (c .before .pass-cells .ensures) (c .before .before .before .before .before .before .before .before .pre .0 .3) (c .before .before .before .before .before .before .before .before .pre .0 .4)))
+returns c =
+    let r = number-is (c .before .before .before .before .before .before .before .before .pre .0 .0) _ _ (c .before .before .before .before .before .before .before .before .pre .0 .3) (c .before .before .before .before .before .before .before .before .pre .0 .4) (c .before .before .before .before .before .before .before .before .pre .1 .1 .0) (c .before .before .before .before .before .before .before .before .pre .1 .1 .1) (c .before .pass-cells .ensures) in
+    let b = tally-small (c .before .before .before .before .before .before .before .before .pre .0 .0) (c .before .pass-cells .ensures) (c .before .before .before .before .before .before .before .before .pre .0 .3) (c .before .before .before .before .before .before .before .before .pre .0 .4) in
+    (omega (arith, r), (omega arith, omega (arith, b)))
 
 pub number-of-spec : {M : Type 1} → statement M
 number-of-spec =

@@ -22,13 +22,13 @@ place-back-requires : tie.Need-place-back-requires
 place-back-requires c κs = ((c .before .before .before .before .before .pre .0 .0), (c .before .before .before .before .before .pre .0 .1), (c .before .before .before .before .before .pre .0 .2))
 
 returns-4 : tie.Need-returns-4
-returns-4 c = pass-path (c .before .before .before .before .before .before .before .pre .0 .0) _ _ (c .before .before .before .before .before .before .before .pre .0 .1) (c .before .before .before .before .before .before .before .pre .0 .2) (c .before .before .before .before .before .before .before .pre .1) (c .before .before .before .before .before .cell-at .ensures) (c .before .before .before .before .if1 .left) (c .before .before .before .if2 .left) (c .before .place-back .ensures) (c .before .before .before .before .before .before .before .pre .0 .3) (c .if4 .taken)
+returns-4 c = pass-path (c .before .before .before .before .before .before .before .pre .0 .0) _ _ (c .before .before .before .before .before .before .before .pre .0 .1) (c .before .before .before .before .before .before .before .pre .0 .2) (c .before .before .before .before .before .before .before .pre .1) (c .before .before .before .before .before .cell-at .ensures) (c .before .before .before .before .if1 .left) (c .before .before .before .if2 .left) (c .before .place-back .ensures) (c .before .before .before .before .before .before .before .pre .0 .3) (omega (arith, (c .if4 .taken)))
 
 add-t12 : tie.Need-add-t12
 add-t12 c = omega (arith, tally-small (c .before .before .before .before .before .before .before .pre .0 .0) (c .before .before .before .before .before .before .before .pre .1) (c .before .before .before .before .before .before .before .pre .0 .1) (c .before .before .before .before .before .before .before .pre .0 .2))
 
 returns-5 : tie.Need-returns-5
-returns-5 c = pass-outside (c .before .before .before .before .before .before .before .pre .0 .0) _ _ (c .before .before .before .before .before .before .before .pre .0 .1) (c .before .before .before .before .before .before .before .pre .0 .2) (c .before .before .before .before .before .before .before .pre .1) (c .before .before .before .before .before .cell-at .ensures) (c .before .before .before .before .if1 .left) (c .before .before .before .if2 .left) (c .before .place-back .ensures) (c .before .before .before .before .before .before .before .pre .0 .3) (c .before .before .if3 .left) (c .if4 .left)
+returns-5 c = pass-outside (c .before .before .before .before .before .before .before .pre .0 .0) _ _ (c .before .before .before .before .before .before .before .pre .0 .1) (c .before .before .before .before .before .before .before .pre .0 .2) (c .before .before .before .before .before .before .before .pre .1) (c .before .before .before .before .before .cell-at .ensures) (c .before .before .before .before .if1 .left) (c .before .before .before .if2 .left) (c .before .place-back .ensures) (c .before .before .before .before .before .before .before .pre .0 .3) (c .before .before .if3 .left) (λ e. (c .if4 .left) (omega (arith, e)))
 
 pub pass-cell-spec : {M : Type 1} → statement M
 pass-cell-spec =
