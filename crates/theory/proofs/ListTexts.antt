@@ -1,4 +1,4 @@
--- Laws of words written as a list text (`specs/Examples`: listText).
+-- Laws of words written as a list text (`specs/Texts`: listText).
 --   LettersBelow, WordsBelow : every letter of a word, of some words, is below k
 --   words-of-text            : the words of the text are the words
 --   text-fine, text-long     : over n generators it is not refused, but for its length
