@@ -1,0 +1,3 @@
+-- Laws of the numbers that stand in a file, a file a notion.
+pub mod Standing
+pub mod SkipTurn
