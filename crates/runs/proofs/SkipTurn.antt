@@ -27,7 +27,7 @@ skipped-on x (broken r) = refl
 skipped-on x (whole xs q) = refl
 
 -- one number more: what is there decides
-numbers-suc : (limit : ℕ) (file : List ℕ) (p k : ℕ) → 0 < k
+pub numbers-suc : (limit : ℕ) (file : List ℕ) (p k : ℕ) → 0 < k
     → numbersAt limit file p k ≡ runOn limit p (numberAt file p) (λ q. numbersAt limit file q (k - 1))
 unfolding numbersAt
 numbers-suc limit file p zero h = absurd (omega arith)
@@ -37,7 +37,7 @@ numbers-suc limit file p (suc k) h = ap (λ j. runOn limit p (numberAt file p) (
     less k = omega arith
 
 -- where no number can be read none stands
-none-there : (file : List ℕ) (p : ℕ) → ReadAt file p Bad → numberAt file p ≡ none
+pub none-there : (file : List ℕ) (p : ℕ) → ReadAt file p Bad → numberAt file p ≡ none
 none-there file p a = go (numberAt file p) refl
   where
     go : (o : Option ℕ) → numberAt file p ≡ o → o ≡ none
