@@ -20,8 +20,7 @@ use Rattle.numbers.specs.Reads.{ReadAt}
 use Rattle.numbers.specs.Splices.{spliced}
 use Rattle.numbers.proofs.SpliceLaws.{spliced-none, spliced-cons, spliced-append, length-spliced}
 use Rattle.runs.specs.Runs.{Run, broken, whole, numberAt, behind, numbersAt, Whole, valuesOf, placeOf}
-use Rattle.runs.proofs.Standing.{standing-complete}
-use Rattle.runs.proofs.SkipTurn.{none-there}
+use Rattle.runs.proofs.Standing.{none-standing, standing-complete}
 use Rattle.runs.proofs.RunLaws.{no-run, Split, split, run-sized}
 use Rattle.list_files.specs.declared.Places.{Places}
 use Rattle.list_files.specs.ListFiles.{Words, stopped, read, lettersOn, wordsAt}
@@ -74,7 +73,7 @@ letters-first n file at count to text h r w =
 
 module _ {n : ℕ} {file : List ℕ} {at count to : ℕ} {text : List ℕ} {end p i : ℕ} {cells : List ℕ} (h : Letters n file at count to text end p i cells) where
   pub letters-bad : i < end → {r : NumberRead} → ReadAt file p r → r ≡ Bad → ⊥
-  letters-bad l a e = no-run (2 * n) file p (end - i) (omega arith) (none-there file p (subst (ReadAt file p) e a)) (h .todo)
+  letters-bad l a e = no-run (2 * n) file p (end - i) (omega arith) (none-standing file p (subst (ReadAt file p) e a)) (h .todo)
 
   module _ (l : i < end) {r : NumberRead} {x next : ℕ} (a : ReadAt file p r) (e : r ≡ Number x next) where
     first : Split (2 * n) file p (end - i) (end - (i + 1)) x
@@ -130,7 +129,7 @@ module _ {n : ℕ} {file : List ℕ} {at count to : ℕ} {text : List ℕ} {end 
 
 module _ (n : ℕ) (file : List ℕ) (p : ℕ) where
   pub word-there : {r : NumberRead} → ReadAt file p r → r ≡ Bad → AllRead (wordsAt n file p 1) → ⊥
-  word-there a e w = subst AllRead (word-none n file p (none-there file p (subst (ReadAt file p) e a))) w
+  word-there a e w = subst AllRead (word-none n file p (none-standing file p (subst (ReadAt file p) e a))) w
 
   module _ {r : NumberRead} {l next : ℕ} (a : ReadAt file p r) (e : r ≡ Number l next) (w : AllRead (wordsAt n file p 1)) where
     word-line : (v : Run) → run n file next l ≡ v

@@ -19,8 +19,7 @@ use Rattle.numbers.specs.declared.NumberRead.{NumberRead}
 use Rattle.numbers.specs.declared.NumberRead.the-variants.{Number, Bad}
 use Rattle.numbers.specs.Reads.{ReadAt}
 use Rattle.runs.specs.Runs.{numberAt, behind}
-use Rattle.runs.proofs.Standing.{standing-complete}
-use Rattle.runs.proofs.SkipTurn.{none-there}
+use Rattle.runs.proofs.Standing.{none-standing, standing-complete}
 use Rattle.list_files.specs.declared.Passed.{Passed}
 use Rattle.list_files.specs.declared.Passed.the-variants.{Refused as Stop, Behind}
 use Rattle.list_files.specs.declared.ListRead.{ListRead}
@@ -141,7 +140,7 @@ module _ (n : ℕ) (file text : List ℕ) (p : ℕ) {r : NumberRead} (a : ReadAt
   pub read-missing : r ≡ Bad → {q : Refusal} → q ≡ givenAs 10 p → ListOutcome n file p text (Refused q) text
   unfolding listIn
   read-missing e f =
-      let i = ap (countIn n (length text) file p) (none-there file p (subst (ReadAt file p) e a)) in
+      let i = ap (countIn n (length text) file p) (none-standing file p (subst (ReadAt file p) e a)) in
       record { answer = ap Refused f ∙ sym (ap readFor i); cells = sym (ap (textFor text) i) }
 
   pub read-count : {k next : ℕ} → r ≡ Number k next → {q : ListRead} {after : List ℕ}

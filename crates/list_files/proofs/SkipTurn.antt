@@ -22,8 +22,7 @@ use Rattle.numbers.specs.Reads.{ReadAt}
 use Rattle.runs.specs.Runs.{Run, broken, whole, numberAt, behind, numbersAt, skippedAs, Whole}
 use Rattle.runs.specs.declared.Skipped.{Skipped}
 use Rattle.runs.specs.declared.Skipped.the-variants.{Refused as Stop, Behind as End}
-use Rattle.runs.proofs.Standing.{standing-complete, behind-inside}
-use Rattle.runs.proofs.SkipTurn.{none-there}
+use Rattle.runs.proofs.Standing.{none-standing, standing-complete, behind-inside}
 use Rattle.runs.proofs.RunLaws.{Sized, run-sized}
 use Rattle.list_files.specs.declared.Passed.{Passed}
 use Rattle.list_files.specs.declared.Passed.the-variants.{Refused, Behind}
@@ -46,7 +45,7 @@ module _ (file : List ℕ) (p : ℕ) {r : NumberRead} {l next : ℕ} (a : ReadAt
 
 module _ (n : ℕ) (file : List ℕ) (p : ℕ) where
   pub word-missing : {r : NumberRead} → ReadAt file p r → r ≡ Bad → Refused (givenAs 10 p) ≡ passedAs (wordsAt n file p 1)
-  word-missing a e = sym (ap passedAs (word-none n file p (none-there file p (subst (ReadAt file p) e a))))
+  word-missing a e = sym (ap passedAs (word-none n file p (none-standing file p (subst (ReadAt file p) e a))))
 
   module _ {r : NumberRead} {l next : ℕ} (a : ReadAt file p r) (e : r ≡ Number l next) where
     abbrev pub letters : Run

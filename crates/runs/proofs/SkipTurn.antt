@@ -19,7 +19,7 @@ use Rattle.refusals.specs.Given.{givenAs}
 use Rattle.runs.specs.declared.Skipped.{Skipped}
 use Rattle.runs.specs.declared.Skipped.the-variants.{Refused, Behind}
 use Rattle.runs.specs.Runs.{Run, broken, whole, brokenAt, onRun, runOn, numberAt, behind, numbersAt, skippedAs}
-use Rattle.runs.proofs.Standing.{standing-sound, standing-complete, behind-inside}
+use Rattle.runs.proofs.Standing.{standing-complete, none-standing, behind-inside}
 
 -- a number in front changes nothing of what is said
 skipped-on : (x : ℕ) (r : Run) → skippedAs (onRun x r) ≡ skippedAs r
@@ -35,14 +35,6 @@ numbers-suc limit file p (suc k) h = ap (λ j. runOn limit p (numberAt file p) (
   where
     less : (k : ℕ) → k ≡ suc k - 1
     less k = omega arith
-
--- where no number can be read none stands
-pub none-there : (file : List ℕ) (p : ℕ) → ReadAt file p Bad → numberAt file p ≡ none
-none-there file p a = go (numberAt file p) refl
-  where
-    go : (o : Option ℕ) → numberAt file p ≡ o → o ≡ none
-    go none e = refl
-    go (some x) e = absurd (a x (standing-sound file p x e))
 
 pub record Head (file : List ℕ) (at count limit p left : ℕ) : Type 0 where
   pub inside : p ≤ length file
@@ -60,7 +52,7 @@ module _ {file : List ℕ} {at count limit p left : ℕ} (h : Head file at count
       ∙ sym (ap skippedAs (numbers-suc limit file p left l)) ∙ h .same
 
   pub head-bad : 0 < left → (r : NumberRead) → ReadAt file p r → r ≡ Bad → Refused (givenAs 10 p) ≡ skippedAs (numbersAt limit file at count)
-  head-bad l r a e = here none l (none-there file p (subst (ReadAt file p) e a))
+  head-bad l r a e = here none l (none-standing file p (subst (ReadAt file p) e a))
 
   pub head-beyond : 0 < left → (r : NumberRead) (x next : ℕ) → ReadAt file p r → r ≡ Number x next → limit ≤ x
       → Refused (givenAs 4 p) ≡ skippedAs (numbersAt limit file at count)

@@ -1,6 +1,6 @@
 -- The number that stands at a place, computed, is theory's.
 --   standing-sound, standing-complete : `numberAt` gives x exactly if x is written there (theory, `NumberAt`)
---   standing-read                     : what `read_number` answers is that
+--   none-standing                     : where `read_number` finds none, none stands
 --   behind-inside                     : the place behind a number is in the file
 -- Assumes nothing.
 use mathlib.Core.Path.{_≡_, refl, sym, _∙_, ap, subst}
@@ -79,18 +79,11 @@ standing-sound file p x e = go (valueOf 5 (drop p file)) e
     go none f = absurd (Option·none-ne-some _ f)
     go (some z) f = is z f (isWritten z (drop p file)) refl
 
--- what `read_number` answers of the number at p
-abbrev pub readAs : ℕ → Option ℕ → NumberRead
-readAs p none = Bad
-readAs p (some x) = Number x (behind p x)
-
-pub standing-read : (file : List ℕ) (p : ℕ) (r : NumberRead) → ReadAt file p r → r ≡ readAs p (numberAt file p)
-unfolding behind
-standing-read file p (Number x next) a =
-    ap (Number x) (a .1) ∙ sym (ap (readAs p) (standing-complete file p x (a .0)))
-standing-read file p Bad a = go (numberAt file p) refl
+-- where no number can be read none stands
+pub none-standing : (file : List ℕ) (p : ℕ) → ReadAt file p Bad → numberAt file p ≡ none
+none-standing file p a = go (numberAt file p) refl
   where
-    go : (o : Option ℕ) → numberAt file p ≡ o → Bad ≡ readAs p o
+    go : (o : Option ℕ) → numberAt file p ≡ o → o ≡ none
     go none e = refl
     go (some x) e = absurd (a x (standing-sound file p x e))
 
