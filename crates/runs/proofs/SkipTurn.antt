@@ -27,7 +27,7 @@ skipped-on x (broken r) = refl
 skipped-on x (whole xs q) = refl
 
 -- one number more: what is there decides
-numbers-suc : (limit : ℕ) (file : List ℕ) (p k : ℕ) → 0 < k
+pub numbers-suc : (limit : ℕ) (file : List ℕ) (p k : ℕ) → 0 < k
     → numbersAt limit file p k ≡ runOn limit p (numberAt file p) (λ q. numbersAt limit file q (k - 1))
 unfolding numbersAt
 numbers-suc limit file p zero h = absurd (omega arith)

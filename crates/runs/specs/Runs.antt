@@ -4,6 +4,7 @@
 --   numberAt file p  == the number that stands at byte p; behind p x == the place behind it
 --   numbersAt limit file p k == k numbers from byte p on, each below the limit, and the place behind them; else the first refusal:
 --                       10 where no number stands, 4 where one of the limit or more does, at its first byte
+--   Whole run <-> it was read to its end; valuesOf, placeOf == its numbers, and the place behind them
 -- `proofs/Standing` joins `numberAt` to theory's `NumberAt`. Assumes nothing.
 use mathlib.Core.Bool.{Bool, true, false, cond, _&&_}
 use mathlib.Core.Option.{Option, none, some}
@@ -77,3 +78,16 @@ numbersAt limit file p (suc k) = runOn limit p (numberAt file p) (λ q. numbersA
 abbrev pub skippedAs : Run → Skipped
 skippedAs (broken r) = Refused (given r)
 skippedAs (whole xs q) = Behind q
+
+-- a run that was read to its end, its numbers, and the place behind them
+abbrev pub Whole : Run → Type 0
+Whole (broken r) = ⊥
+Whole (whole xs q) = Unit {0}
+
+abbrev pub valuesOf : Run → List ℕ
+valuesOf (broken r) = []
+valuesOf (whole xs q) = xs
+
+abbrev pub placeOf : Run → ℕ
+placeOf (broken r) = 0
+placeOf (whole xs q) = q
