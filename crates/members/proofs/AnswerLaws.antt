@@ -130,7 +130,7 @@ not-found none e = refl
 not-found (some c) e = absurd (let z : _≡_ {A = ℕ} 0 1 = cc in omega arith)
 
 -- a cause found is the refusal that there is
-found-cause : (o : Option FirstCause) {r : Refusal} → Cause r ≡ foundAs o → (c : FirstCause) × (o ≡ some c) × (r ≡ given c)
+pub found-cause : (o : Option FirstCause) {r : Refusal} → Cause r ≡ foundAs o → (c : FirstCause) × (o ≡ some c) × (r ≡ given c)
 found-cause none e = absurd (let z : _≡_ {A = ℕ} 0 1 = cc in omega arith)
 found-cause (some c) {r} e = (c, refl, cc)
 
@@ -233,38 +233,36 @@ module _ (n N : ℕ) (t query work : List ℕ) where
         omega (arith, f .enough, same),
       )
 
-  -- the query is reduced, read, and the cells are cleared
-  pub decided : {r : Reduced} {after cells : List ℕ} {reading : Reading} {answer : Answer} → memberRefusal n N t query (length work) ≡ none
-      → ReducedInto query work r after → reading ≡ readingAs n N t (take (r .left) after)
-      → cells ≡ filled (length query) 0 after → answer ≡ answerOf reading → MemberOutcome n N t query work answer cells
-  unfolding answerAs cellsAfter filled
-  decided {r} {after} {cells} {reading} {answer} none-refused into read cleared said =
-      record {
-        answer = said ∙ ap answerOf (read ∙ ap (readingAs n N t) letters-left) ∙ answer-accepted n N t (queryWord query) ∙ sym (ap (answerFor n N t query) none-refused);
-        cells =
-            cleared
-            ∙ ap (λ l. replicate (length query) 0 ++ l) kept
-            ∙ sym (ap (cellsFor query work) none-refused);
-      }
-    where
-      f : Fine n N t query (length work)
-      f = fine n N t query (length work) none-refused
+  module _ (none-refused : memberRefusal n N t query (length work) ≡ none) {r : Reduced} {after : List ℕ} (into : ReducedInto query work r after) where
+    -- the letters left are the reduced query
+    pub letters-left : take (r .left) after ≡ reduced (queryWord query)
+    letters-left =
+        ap (take (r .left)) (into .cells)
+        ∙ ap (λ k. take k (reducedCells (firstWord query) work)) (into .left)
+        ∙ cells-start (firstWord query) work
+        ∙ ap reduced (query-word n query (fine n N t query (length work) none-refused .text))
 
-      w : List ℕ
-      w = firstWord query
+    -- the cells behind the needed ones are as they were
+    pub cells-behind : drop (length query) after ≡ drop (length query) work
+    cells-behind =
+        ap (drop (length query)) (into .cells) ∙ cells-kept (firstWord query) work (length query) (omega (arith, length-first))
+      where
+        length-first : length (firstWord query) ≡ length query
+        length-first =
+            length-firstWord query ∙ query-length n query (fine n N t query (length work) none-refused .text)
 
-      letters-left : take (r .left) after ≡ reduced (queryWord query)
-      letters-left =
-          ap (take (r .left)) (into .cells)
-          ∙ ap (λ k. take k (reducedCells w work)) (into .left)
-          ∙ cells-start w work
-          ∙ ap reduced (query-word n query (f .text))
-
-      kept : drop (length query) after ≡ drop (length query) work
-      kept = ap (drop (length query)) (into .cells) ∙ cells-kept w work (length query) (omega (arith, length-first))
-        where
-          length-first : length w ≡ length query
-          length-first = length-firstWord query ∙ query-length n query (f .text)
+    -- the query is reduced, read, and the cells are cleared
+    pub decided : {cells : List ℕ} {reading : Reading} {answer : Answer} → reading ≡ readingAs n N t (take (r .left) after)
+        → cells ≡ filled (length query) 0 after → answer ≡ answerOf reading → MemberOutcome n N t query work answer cells
+    unfolding answerAs cellsAfter filled
+    decided read cleared said =
+        record {
+          answer = said ∙ ap answerOf (read ∙ ap (readingAs n N t) letters-left) ∙ answer-accepted n N t (queryWord query) ∙ sym (ap (answerFor n N t query) none-refused);
+          cells =
+              cleared
+              ∙ ap (λ l. replicate (length query) 0 ++ l) cells-behind
+              ∙ sym (ap (cellsFor query work) none-refused);
+        }
 
   -- the first cause, or the answer where there is none
   pub member-refused : {f : Found} {r : Refusal} → f ≡ foundAs (memberRefusal n N t query (length work)) → f ≡ Cause r → MemberOutcome n N t query work (Refused r) work
