@@ -5,7 +5,7 @@
 --   Marking <-> the first j marks are left, and the tally stands at the row of mark j; marking-first, marking-turn, marking-done
 --   number-is : the number of an edge outside the paths is one more than how many stand before it
 -- Assumes nothing.
-use mathlib.Core.Path.{_≡_, refl, sym, _∙_, ap, subst}
+use mathlib.Core.Path.{_≡_, refl, sym, _∙_, ap}
 use mathlib.Core.Logic.{by-cases}
 use mathlib.Core.Bool.{true}
 use mathlib.Core.List.{List, [], _∷_, _++_, append-assoc, append-nil}

@@ -7,13 +7,13 @@
 --   forth-test, back-test : a path's last step is told by places, in either direction
 --   outside-loop, outside-back, outside-forth : the test for an edge that no path uses, asked of its greater end
 -- Assumes nothing.
-use mathlib.Core.Path.{_≡_, refl, sym, _∙_, ap, subst}
+use mathlib.Core.Path.{_≡_, refl, sym, _∙_, ap}
 use mathlib.Core.Logic.{_⊎_, inl, inr, ⊎-elim, by-cases}
 use mathlib.Core.Bool.{Bool, true, false, cond, not, _&&_, _||_}
 use mathlib.Core.Option.{Option, none, some, Option·some-injective, Option·none-ne-some}
 use mathlib.Core.List.{List}
-use Prim.Native.Nat.{ℕ, zero, suc, _+_, _*_, _%_, _≤_, _<_}
-use native.Mathlib.Decide.{ℕ-discrete, decLt}
+use Prim.Native.Nat.{ℕ, _+_, _*_, _≤_, _<_}
+use native.Mathlib.Decide.{ℕ-discrete}
 use native.Mathlib.Numerals.{add-one}
 use native.Mathlib.Omega.{arith}
 use lib.Dec.{eqb}
@@ -24,12 +24,12 @@ use Rattle.theory.specs.Letters.{usual}
 use Rattle.theory.specs.Tables.{absent, Cells, Leads, cell}
 use Rattle.theory.specs.Canonical.{Place, firstPlace}
 use Rattle.theory.specs.Basis.{Spot, spotAt, firstMet, isSpot, isPathStep, isPathEdge}
-use Rattle.theory.proofs.WordLaws.{byTest, letters}
+use Rattle.theory.proofs.WordLaws.{letters}
 use Rattle.theory.proofs.RefusalLaws.{and-true}
 use Rattle.theory.proofs.TableLaws.{length-usual, getD-usual, row-below}
-use Rattle.theory.proofs.PlaceLaws.{passes-fails, fails, ComesBefore, IsFirst, before-of-position, position-of-before, before-cases, firstPlace-some, firstPlace-is, firstPlace-is-none}
+use Rattle.theory.proofs.PlaceLaws.{passes-fails, fails, ComesBefore, IsFirst, position-of-before, before-cases, firstPlace-some, firstPlace-is, firstPlace-is-none}
 use Rattle.theory.proofs.PathLaws.{Setting, usual-setting, spot, Step, leads-in, met, step-leads}
-use Rattle.theory.proofs.EdgeLaws.{isPathStep-sound, isPathStep-complete}
+use Rattle.theory.proofs.EdgeLaws.{isPathStep-sound}
 use Rattle.tables.specs.Cells.{Inside}
 use Rattle.tables.proofs.CellTurn.{Sizes, sizes, product-small}
 use Rattle.edges.specs.Edges.{Sound, isOutside}

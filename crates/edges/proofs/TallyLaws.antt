@@ -7,8 +7,8 @@
 --   tally-few   : there are no more edges than cells
 -- Assumes nothing.
 use mathlib.Core.Path.{_≡_, refl, sym, _∙_, ap, subst}
-use mathlib.Core.Logic.{_⊎_, inl, inr, ⊎-elim, by-cases}
-use mathlib.Core.Bool.{Bool, true, false, cond, not, _&&_, _||_}
+use mathlib.Core.Logic.{inl, inr, ⊎-elim, by-cases}
+use mathlib.Core.Bool.{Bool, true, false, not, _&&_}
 use mathlib.Core.Option.{some}
 use mathlib.Core.List.{List, [], _∷_, _++_, append-assoc, append-nil}
 use Prim.Native.Nat.{ℕ, zero, suc, _+_, _*_, _%_, _≤_, _<_, max}
@@ -20,9 +20,8 @@ use lib.Dec.{eqb}
 use lib.ListN.{length, getD, take, length-append, length-map, length-take, List·getD-append, List·getD-map}
 use lib.Seq.{getD-append-add, take-suc, take-all}
 use borrow.Author.Tests.{eq-eqb, ne-eqb}
-use Rattle.theory.specs.Words.{inv}
 use Rattle.theory.specs.Letters.{usual, StandsIn}
-use Rattle.theory.specs.Tables.{absent, Cells, Leads, cell}
+use Rattle.theory.specs.Tables.{absent, Cells, cell}
 use Rattle.theory.specs.Graphs.{isLower}
 use Rattle.theory.specs.Canonical.{rowsBefore, earlier, greatestMet}
 use Rattle.theory.specs.Basis.{Spot, spotsOf, scan, spotAt, firstMet, isPathStep, isPathEdge, those, isEdge}
@@ -30,13 +29,13 @@ use Rattle.theory.proofs.WordLaws.{byTest}
 use Rattle.theory.proofs.TableLaws.{length-usual, getD-usual, row-below}
 use Rattle.theory.proofs.PlaceLaws.{fails, ComesBefore, IsFirst, firstPlace-is}
 use Rattle.theory.proofs.RowLaws.{Met, earlier-suc, earlier-row, earlier-start, earlier-of-cell, cell-of-earlier, greatestMet-most, greatestMet-append}
-use Rattle.theory.proofs.PathLaws.{spot, Step}
+use Rattle.theory.proofs.PathLaws.{spot}
 use Rattle.theory.proofs.EdgeLaws.{those-length, isPathStep-sound, isPathStep-complete}
-use Rattle.tables.proofs.CellTurn.{Sizes, product-small}
+use Rattle.tables.proofs.CellTurn.{product-small}
 use Rattle.edges.specs.declared.Tally.{Tally}
 use Rattle.edges.specs.Edges.{Sound, isOutside, outsideIn, tallyBefore}
 use Rattle.edges.specs.Steps.{placeBack, stepPlace, tallyAt}
-use Rattle.edges.proofs.StepLaws.{sound-sizes, leads-small, back-test, first-least}
+use Rattle.edges.proofs.StepLaws.{sound-sizes, back-test, first-least}
 
 -- equal parts, equal tallies
 tally-eq : {a b d e : ℕ} → a ≡ d → b ≡ e → _≡_ {A = Tally} (record { met = a; edges = b }) (record { met = d; edges = e })

@@ -6,11 +6,10 @@
 --   runOf N k           == how many rows k marks leave from one to the next
 --   left, found         == the work cells once mark j's tally stands there, and the tally that mark j's cells hold: none before mark 1
 -- Assumes nothing.
-use mathlib.Core.Path.{_≡_}
 use mathlib.Core.Bool.{cond}
 use mathlib.Core.Option.{Option, none, some}
 use mathlib.Core.List.{List, _++_}
-use Prim.Native.Nat.{ℕ, zero, suc, _+_, _-_, _*_, _/_}
+use Prim.Native.Nat.{ℕ, zero, suc, _+_, _*_, _/_}
 use lib.Dec.{eqb}
 use lib.ListN.{length, getD, set, take}
 use Rattle.theory.specs.Words.{inv}

@@ -6,7 +6,7 @@ use Rattle.edges.specs.Steps.{tallyAt}
 use Rattle.edges.proofs.StepLaws.{sound-sizes}
 use Rattle.edges.proofs.TallyLaws.{tally-zero}
 use mathlib.Core.Path.{_≡_, _∙_, sym, ap}
-use Prim.Native.Nat.{_-_, _≤_, _<_}
+use Prim.Native.Nat.{_-_, _≤_}
 use native.Mathlib.Omega.{arith}
 use Rattle.edges.proofs.pass_cells.Statement.{statement}
 use Rattle.edges.proofs.pass_cells.Tie as tie

@@ -6,7 +6,7 @@ use Rattle.edges.specs.Edges.{tallyBefore}
 use Rattle.edges.proofs.StepLaws.{sound-sizes}
 use Rattle.edges.proofs.TallyLaws.{tally-whole}
 use mathlib.Core.Path.{_≡_, _∙_, ap}
-use Prim.Native.Nat.{_-_, _≤_, _<_}
+use Prim.Native.Nat.{_-_, _≤_}
 use native.Mathlib.Omega.{arith}
 use Rattle.edges.proofs.pass_rows.Statement.{statement}
 use Rattle.edges.proofs.pass_rows.Tie as tie

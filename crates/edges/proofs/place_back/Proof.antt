@@ -2,8 +2,7 @@
 -- Assumes nothing.
 use Rattle.tables.proofs.CellTurn.{product-small}
 use Rattle.edges.proofs.StepLaws.{sound-sizes, sound-inside, back-absent, back-small, inverse-small, back-value}
-use mathlib.Core.Path.{_∙_, sym, ap}
-use Prim.Native.Nat.{_+_, _*_}
+use mathlib.Core.Path.{_∙_, sym}
 use native.Mathlib.Omega.{arith}
 use borrow.Author.Needs.{needs}
 use Rattle.edges.proofs.place_back.Statement.{statement}
