@@ -7,7 +7,7 @@
 -- Assumes nothing.
 use mathlib.Core.Path.{_≡_, refl, sym, _∙_, ap, subst}
 use mathlib.Core.Logic.{⊎-elim, by-cases}
-use mathlib.Core.Bool.{Bool, true, false, cond, _&&_}
+use mathlib.Core.Bool.{Bool, true, false, _&&_}
 use mathlib.Core.Option.{Option, none, some}
 use mathlib.Core.List.{List, [], _∷_, _++_, map}
 use Prim.Native.Nat.{ℕ, zero, suc, _+_, _-_, _*_, _/_, _≤_, _<_}
@@ -29,7 +29,7 @@ use Rattle.theory.proofs.PlaceLaws.{passes-fails}
 use Rattle.theory.proofs.RefusalLaws.{refusal-none}
 use Rattle.theory.proofs.TableRefusalLaws.{in-lent, member-refusal-first}
 use Rattle.cells.specs.Filled.{filled}
-use Rattle.refusals.specs.Given.{given, givenAs}
+use Rattle.refusals.specs.Given.{givenAs}
 use Rattle.refusals.specs.declared.Refusal.{Refusal}
 use Rattle.words.specs.Reduction.{ReducedInto}
 use Rattle.words.specs.declared.Reduced.{Reduced}

@@ -5,9 +5,9 @@
 --   express-empty   : a query that reduces to nothing is inside, and nothing is written
 -- Assumes nothing.
 use mathlib.Core.Path.{_≡_, refl, sym, _∙_, ap}
-use mathlib.Core.Bool.{true, false, cond, _&&_}
+use mathlib.Core.Bool.{true, false, _&&_}
 use mathlib.Core.Option.{Option, none, some}
-use mathlib.Core.List.{List, [], _∷_, _++_}
+use mathlib.Core.List.{List, []}
 use Prim.Native.Nat.{ℕ}
 use native.Mathlib.Omega.{arith}
 use lib.Dec.{ltb}
@@ -30,7 +30,7 @@ use Rattle.theory.proofs.ExpressionLaws.{expression-tidy, expression-product, e
 use Rattle.members.specs.Members.{queryWord}
 use Rattle.expressions.specs.Expressions.{isInside, numbersOf, expressRefusal, expressedFor, outFor, ExpressOutcome}
 use Rattle.expressions.specs.declared.Expressed.{Expressed}
-use Rattle.expressions.specs.declared.Expressed.the-variants.{Refused, Inside, Outside}
+use Rattle.expressions.specs.declared.Expressed.the-variants.{Inside, Outside}
 use Rattle.expressions.proofs.PlaceLaws.{setting}
 use Rattle.expressions.proofs.AnswerLaws.{sound-of}
 

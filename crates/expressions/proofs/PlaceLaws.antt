@@ -7,15 +7,14 @@
 -- Assumes nothing.
 use mathlib.Core.Path.{_≡_, refl, sym, _∙_, ap, subst}
 use mathlib.Core.Logic.{⊎-elim, by-cases}
-use mathlib.Core.Bool.{Bool, true, false, cond, not, _&&_}
-use mathlib.Core.Option.{none, some, Option·none-ne-some}
-use mathlib.Core.List.{List, [], _∷_, _++_, map, List·Memᴰ}
-use Prim.Native.Nat.{ℕ, zero, suc, _+_, _-_, _*_, _/_, _%_, _≤_, _<_}
+use mathlib.Core.Bool.{Bool, true, false, not}
+use mathlib.Core.Option.{some, Option·none-ne-some}
+use mathlib.Core.List.{List, [], _∷_, _++_, map}
+use Prim.Native.Nat.{ℕ, suc, _+_, _-_, _*_, _/_, _%_, _≤_, _<_}
 use native.Mathlib.Decide.{ℕ-discrete}
 use native.Mathlib.Nat.{mul-le-mul-right}
 use native.Mathlib.Numerals.{add-one}
 use native.Mathlib.Omega.{arith}
-use lib.Dec.{eqb}
 use lib.Arith.{digits-div, digits-mod}
 use lib.IntN.{ℤ, pos, negsuc, negℤ, natAbs}
 use lib.ListN.{length, length-map}
@@ -24,7 +23,7 @@ use Rattle.theory.specs.Words.{inv}
 use Rattle.theory.specs.Letters.{usual}
 use Rattle.theory.specs.Tables.{absent, Cells, cell, Leads, endOf}
 use Rattle.theory.specs.Graphs.{isLower}
-use Rattle.theory.specs.Basis.{Spot, isEdge, isPathEdge, outsideEdges, numberIn, signed, crossing, crossings}
+use Rattle.theory.specs.Basis.{Spot, isEdge, isPathEdge, outsideEdges, numberIn, crossing, crossings}
 use Rattle.theory.proofs.WordLaws.{byTest, letters}
 use Rattle.theory.proofs.RefusalLaws.{alphabet-in}
 use Rattle.theory.proofs.PlaceLaws.{passes-fails}

@@ -6,7 +6,6 @@
 --   sign-lost          : nor does an edge read backwards have the number of one read forwards (the query A)
 -- Assumes nothing.
 use mathlib.Core.Path.{_≡_, refl, _∙_, ap}
-use mathlib.Core.Bool.{true, false}
 use mathlib.Core.Option.{none}
 use mathlib.Core.List.{List, [], _∷_}
 use Prim.Native.Nat.{ℕ}
@@ -47,7 +46,7 @@ use Rattle.theory.specs.Basis.{
   expressionOf,
 }
 use Rattle.refusals.specs.declared.Refusal.{Refusal}
-use Rattle.expressions.specs.Expressions.{isInside, numbersOf, expressRefusal, expressedFor, outFor, ExpressOutcome}
+use Rattle.expressions.specs.Expressions.{numbersOf, expressRefusal, expressedFor, outFor, ExpressOutcome}
 use Rattle.expressions.specs.declared.Expressed.{Expressed}
 use Rattle.expressions.specs.declared.Expressed.the-variants.{Refused, Inside, Outside}
 

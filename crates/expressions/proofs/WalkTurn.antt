@@ -55,6 +55,9 @@ module _ {n N : ℕ} {t : List ℕ} {word : List ℕ} {count : ℕ} (fits : coun
       pub walk-leads : cell n N t v (getD word i 0) ≡ absent → ⊥
       walk-leads = step .0
 
+      pub walk-there : {x : ℕ} → x ≡ cell n N t v (getD word i 0) → x ≡ absent → ⊥
+      walk-there e z = step .0 (sym e ∙ z)
+
       pub walk-in : (v < N) × (getD word i 0 < 2 * n) × (cell n N t v (getD word i 0) < N)
       walk-in = letter-in (R .0) v (getD word i 0) (step .0)
 

@@ -8,8 +8,6 @@ use mir.Syntax.{w32}
 use mir.ValLaws.{toZ-ofZ}
 use Rattle.expressions.proofs.SignLaws.{below, size-kept}
 use Rattle.expressions.proofs.PlaceLaws.{letters-of, point-at, edge-at, outside-at, number-signed}
-use mathlib.Core.Path.{_∙_}
-use Rattle.expressions.proofs.SignLaws.{below}
 use Rattle.expressions.proofs.number_at.Statement.{statement}
 use Rattle.expressions.proofs.number_at.Tie as tie
 

@@ -6,7 +6,6 @@ use native.Mathlib.Omega.{arith}
 use Rattle.expressions.specs.Places.{numbered}
 use Rattle.expressions.proofs.WalkTurn.{Numbering, numbering-first, numbering-length, numbering-stored, numbering-done, next-at, at-read}
 use borrow.Author.Needs.{needs}
-use Rattle.expressions.proofs.WalkTurn.{Numbering, numbering-first, numbering-length, numbering-turn, numbering-done, next-at}
 use Rattle.expressions.proofs.number_places.Statement.{statement}
 use Rattle.expressions.proofs.number_places.Tie as tie
 

@@ -6,8 +6,6 @@ use borrow.Author.Tests.{not-true, not-false}
 use Rattle.expressions.proofs.PlaceLaws.{letters-of, points-of, letter-in}
 use Rattle.expressions.proofs.WalkTurn.{place-passed, place-stored, place-room}
 use borrow.Author.Needs.{needs}
-use mathlib.Core.Path.{sym, _∙_, subst}
-use Prim.Native.Nat.{_<_}
 use Rattle.expressions.proofs.write_place.Statement.{statement}
 use Rattle.expressions.proofs.write_place.Tie as tie
 

@@ -1,10 +1,9 @@
 -- `expressions::write_places` meets its contract. The loop: i letters were read, and the places of their edges stand in front (`WalkTurn`).
 -- Assumes nothing.
-use mathlib.Core.Path.{sym, _∙_}
 use Prim.Native.Nat.{_-_}
 use native.Mathlib.Omega.{arith}
 use Rattle.expressions.proofs.PlaceLaws.{letters-of}
-use Rattle.expressions.proofs.WalkTurn.{walk-in, walk-leads, walk-room, Writing, writing-first, writing-length, writing-turn, writing-done}
+use Rattle.expressions.proofs.WalkTurn.{walk-in, walk-there, walk-room, Writing, writing-first, writing-length, writing-turn, writing-done}
 use borrow.Author.Needs.{needs}
 use Rattle.expressions.proofs.write_places.Statement.{statement}
 use Rattle.expressions.proofs.write_places.Tie as tie
@@ -34,7 +33,7 @@ cell-at-requires : tie.Need-cell-at-requires Inv-loop μ-loop
 cell-at-requires c κs = let w = walk-in (c .before .before .before .before .before .pre .0) (c .before .before .before .before .before .pre .1) (c .before .before .loop .inv .walk) (c .before .loop-test .taken) in record { alphabet = c .before .before .before .before .before .pre .1 .0 .alphabet; lent = c .before .before .before .before .before .pre .1 .0 .lent; point = w .0; letter = w .1 }
 
 write-place-requires : tie.Need-write-place-requires Inv-loop μ-loop
-write-place-requires c κs = let w = walk-in (c .before .before .before .before .before .before .before .pre .0) (c .before .before .before .before .before .before .before .pre .1) (c .before .before .before .before .loop .inv .walk) (c .before .before .before .loop-test .taken) in (c .before .before .before .before .before .before .before .pre .1 .0, w .0, w .1, c .before .cell-at .ensures, λ z. walk-leads (c .before .before .before .before .before .before .before .pre .0) (c .before .before .before .before .before .before .before .pre .1) (c .before .before .before .before .loop .inv .walk) (c .before .before .before .loop-test .taken) (sym (c .before .cell-at .ensures) ∙ z), omega (arith, walk-room (c .before .before .before .before .before .before .before .pre .0) (c .before .before .before .before .before .before .before .pre .1) (c .before .before .before .before .loop .inv .walk) (c .before .before .before .loop-test .taken), writing-length (c .before .before .before .before .before .before .before .pre .0) (c .before .before .before .before .before .before .before .pre .1) (c .before .before .before .before .loop .inv), c .before .before .before .before .before .before .before .pre .2))
+write-place-requires c κs = let w = walk-in (c .before .before .before .before .before .before .before .pre .0) (c .before .before .before .before .before .before .before .pre .1) (c .before .before .before .before .loop .inv .walk) (c .before .before .before .loop-test .taken) in (c .before .before .before .before .before .before .before .pre .1 .0, w .0, w .1, c .before .cell-at .ensures, walk-there (c .before .before .before .before .before .before .before .pre .0) (c .before .before .before .before .before .before .before .pre .1) (c .before .before .before .before .loop .inv .walk) (c .before .before .before .loop-test .taken) (c .before .cell-at .ensures), omega (arith, walk-room (c .before .before .before .before .before .before .before .pre .0) (c .before .before .before .before .before .before .before .pre .1) (c .before .before .before .before .loop .inv .walk) (c .before .before .before .loop-test .taken), writing-length (c .before .before .before .before .before .before .before .pre .0) (c .before .before .before .before .before .before .before .pre .1) (c .before .before .before .before .loop .inv), c .before .before .before .before .before .before .before .pre .2))
 
 add-i : tie.Need-add-i Inv-loop μ-loop
 add-i c = omega (arith, c .before .before .before .before .before .before .before .before .before .pre .0, c .before .before .before .before .before .before .before .before .before .good, c .before .before .before .before .before .loop-test .taken)
