@@ -7,7 +7,7 @@
 -- Assumes nothing.
 use mathlib.Core.Path.{_≡_, refl, sym, _∙_, ap, subst}
 use mathlib.Core.Logic.{⊎-elim, by-cases}
-use mathlib.Core.Bool.{Bool, true, false, _&&_}
+use mathlib.Core.Bool.{Bool, true, false, cond, _&&_}
 use mathlib.Core.Option.{Option, none, some}
 use mathlib.Core.List.{List, [], _∷_, _++_, map}
 use Prim.Native.Nat.{ℕ, zero, suc, _+_, _-_, _*_, _/_, _≤_, _<_}
@@ -43,7 +43,7 @@ use Rattle.members.specs.declared.Found.the-variants.{Cause}
 use Rattle.members.proofs.AnswerLaws.{found-cause, alphabet-of, fine, letters-left, cells-behind}
 use Rattle.edges.specs.Edges.{Sound, marksOf}
 use Rattle.expressions.specs.Places.{placesOf, numbered, AllAtEdge, Readable}
-use Rattle.expressions.specs.Parts.{isHome, notesOf, inFront, Marked, wordAnswer, wordOut, WordOutcome}
+use Rattle.expressions.specs.Parts.{isHome, notesOf, inFront, Marked, wordAnswer, wordOut, markedWork, WordOutcome}
 use Rattle.expressions.specs.Expressions.{isInside, numbersOf, expressRefusal, expressedFor, workFor, outFor, ExpressOutcome}
 use Rattle.expressions.specs.declared.Expressed.{Expressed}
 use Rattle.expressions.specs.declared.Expressed.the-variants.{Refused, Inside, Outside}
@@ -126,8 +126,8 @@ module _ {n N : ℕ} {t : List ℕ} (w : List ℕ) {crossed : ℕ} (out : List �
 -- ── A word ──
 
 module _ {n N : ℕ} {t : List ℕ} (w : List ℕ) where
-  pub word-outside : {k : ℕ} {work : List ℕ} {out : List ℤ} {b : Bool} → b ≡ isHome n N t w → b ≡ false → WordOutcome n N t w k work out Outside work out
-  word-outside e f = record { answer = rw (sym e ∙ f); numbers = rw (sym e ∙ f); kept = refl }
+  pub word-outside : {marks : ℕ} {work : List ℕ} {out : List ℤ} {b : Bool} → b ≡ isHome n N t w → b ≡ false → WordOutcome n N t w marks work out Outside work out
+  word-outside e f = record { answer = rw (sym e ∙ f); numbers = rw (sym e ∙ f); cells = rw (sym e ∙ f) }
 
   pub word-readable : {b : Bool} → Sound n N t → b ≡ isHome n N t w → b ≡ true → Readable n N t w
   unfolding isHome
@@ -146,16 +146,28 @@ module _ {n N : ℕ} {t : List ℕ} (w : List ℕ) where
     unfolding notesOf
     count-so = h ∙ places-count (R .0) w (R .1)
 
-    pub word-narrow : {k : ℕ} {work : List ℕ} {out : List ℤ} {r : Refusal} → length out < crossed → r ≡ givenAs 9 crossed → WordOutcome n N t w k work out (Refused r) work out
+    pub word-narrow : {marks : ℕ} {work : List ℕ} {out : List ℤ} {r : Refusal} → length out < crossed → r ≡ givenAs 9 crossed → WordOutcome n N t w marks work out (Refused r) work out
     word-narrow {out = out} l g =
         let b = lt-ltb (length out) (length (notesOf n N t w)) (omega (arith, count-so)) in
-        record { answer = ap Refused (g ∙ ap (givenAs 9) count-so) ∙ rw (home-so, b); numbers = rw (home-so, b); kept = refl }
+        record { answer = ap Refused (g ∙ ap (givenAs 9) count-so) ∙ rw (home-so, b); numbers = rw (home-so, b); cells = rw (home-so, b) }
 
-    pub word-written : {k : ℕ} {work : List ℕ} {out : List ℤ} {work′ : List ℕ} {out′ : List ℤ} → crossed ≤ length out → out′ ≡ inFront (notesOf n N t w) out → drop k work′ ≡ drop k work
-        → WordOutcome n N t w k work out (Inside crossed) work′ out′
+    pub word-written : {marks : ℕ} {work : List ℕ} {out : List ℤ} {work′ : List ℕ} {out′ : List ℤ} → crossed ≤ length out → out′ ≡ inFront (notesOf n N t w) out → work′ ≡ markedWork n N t marks work
+        → WordOutcome n N t w marks work out (Inside crossed) work′ out′
     word-written {out = out} l e d =
         let b = le-ltb (length out) (length (notesOf n N t w)) (omega (arith, count-so)) in
-        record { answer = ap Inside count-so ∙ rw (home-so, b); numbers = e ∙ rw (home-so, b); kept = d }
+        record { answer = ap Inside count-so ∙ rw (home-so, b); numbers = e ∙ rw (home-so, b); cells = d ∙ rw (home-so, b) }
+
+  -- the cells behind the marks are as they were
+  pub word-kept : {marks : ℕ} {work : List ℕ} {out : List ℤ} {r : Expressed} {work′ : List ℕ} {out′ : List ℤ} → WordOutcome n N t w marks work out r work′ out′
+      → drop (2 * marks) work′ ≡ drop (2 * marks) work
+  word-kept {marks} {work} {out} W =
+      ap (drop (2 * marks)) (W .cells)
+      ∙ either (isHome n N t w) (ltb (length out) (length (notesOf n N t w)))
+    where
+      either : (a b : Bool) → drop (2 * marks) (cond a (cond b work (markedWork n N t marks work)) work) ≡ drop (2 * marks) work
+      either true true = refl
+      either true false = marks-kept n N t work marks refl
+      either false b = refl
 
 -- ── A query ──
 
@@ -212,22 +224,22 @@ module _ (n N : ℕ) (t query work : List ℕ) (out : List ℤ) where
     unfolding expressRefusal
     late-is = rw fit
 
-    module _ {k : ℕ} {said : Expressed} {left cells : List ℕ} {numbers : List ℤ} (few : k ≤ length query)
-        (W : WordOutcome n N t (take (r .left) after) k after out said left numbers) (cleared : cells ≡ filled (length query) 0 left) where
+    module _ {marks : ℕ} {said : Expressed} {left cells : List ℕ} {numbers : List ℤ} (few : 2 * marks ≤ length query)
+        (W : WordOutcome n N t (take (r .left) after) marks after out said left numbers) (cleared : cells ≡ filled (length query) 0 left) where
       -- the needed cells are cleared, the later ones are as they were
       all-cleared : cells ≡ filled (length query) 0 work
       unfolding filled
       all-cleared = cleared ∙ ap (λ l. replicate (length query) 0 ++ l) (behind ∙ cells-behind n N t query work fit into)
         where
-          split : length query ≡ k + (length query - k)
+          split : length query ≡ 2 * marks + (length query - 2 * marks)
           split = omega arith
 
           behind : drop (length query) left ≡ drop (length query) after
           behind =
               ap (λ j. drop j left) split
-              ∙ sym (drop-drop (length query - k) k left)
-              ∙ ap (drop (length query - k)) (W .kept)
-              ∙ drop-drop (length query - k) k after
+              ∙ sym (drop-drop (length query - 2 * marks) (2 * marks) left)
+              ∙ ap (drop (length query - 2 * marks)) (word-kept (take (r .left) after) W)
+              ∙ drop-drop (length query - 2 * marks) (2 * marks) after
               ∙ ap (λ j. drop j after) (sym split)
 
       word : take (r .left) after ≡ reduced (queryWord query)

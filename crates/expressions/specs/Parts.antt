@@ -2,7 +2,8 @@
 --   isHome n N t w  == the word leads from the base to the base
 --   notesOf n N t w == the signed numbers noted along the word, read from the base
 --   Marked          <-> the first 2 × marks cells hold the marks
---   WordOutcome     <-> the answer, the output, and the cells behind the first k as they were
+--   markedWork      == the marks in the first cells, the others as they were
+--   WordOutcome     <-> the answer, the output, and the work cells: with marks where numbers were written, else as they were
 -- Assumes nothing.
 use mathlib.Core.Path.{_≡_}
 use mathlib.Core.Bool.{Bool, cond}
@@ -45,7 +46,14 @@ abbrev pub wordOut : ℕ → ℕ → List ℕ → List ℕ → List ℤ → List
 wordOut n N t w out =
     cond (isHome n N t w) (cond (ltb (length out) (length (notesOf n N t w))) out (inFront (notesOf n N t w) out)) out
 
-pub record WordOutcome (n N : ℕ) (t w : List ℕ) (k : ℕ) (work : List ℕ) (out : List ℤ) (r : Expressed) (work′ : List ℕ) (out′ : List ℤ) : Type 0 where
+abbrev pub markedWork : ℕ → ℕ → List ℕ → ℕ → List ℕ → List ℕ
+markedWork n N t marks work = marksOf (cell n N t) N (usual n) marks marks ++ drop (2 * marks) work
+
+abbrev pub wordWork : ℕ → ℕ → List ℕ → List ℕ → ℕ → ℕ → List ℕ → List ℕ
+wordWork n N t w marks space work =
+    cond (isHome n N t w) (cond (ltb space (length (notesOf n N t w))) work (markedWork n N t marks work)) work
+
+pub record WordOutcome (n N : ℕ) (t w : List ℕ) (marks : ℕ) (work : List ℕ) (out : List ℤ) (r : Expressed) (work′ : List ℕ) (out′ : List ℤ) : Type 0 where
   pub answer : r ≡ wordAnswer n N t w (length out)
   pub numbers : out′ ≡ wordOut n N t w out
-  pub kept : drop k work′ ≡ drop k work
+  pub cells : work′ ≡ wordWork n N t w marks (length out) work

@@ -11,7 +11,7 @@ ghost use Rattle.theory.specs.TableRefusals.{memberRefusal};
 ghost use Rattle.edges.specs.Edges.{Sound};
 ghost use Rattle.expressions.specs.Expressions.{ExpressOutcome};
 ghost use Rattle.expressions.specs.Places.{signedBy, placeOf, placed, placesOf, numbered, AtEdge, AllAtEdge, Readable};
-ghost use Rattle.expressions.specs.Parts.{isHome, notesOf, inFront, Marked, WordOutcome};
+ghost use Rattle.expressions.specs.Parts.{isHome, notesOf, inFront, Marked, markedWork, WordOutcome};
 use members::Found;
 use members::Reading;
 use refusals::Refusal;
@@ -169,7 +169,7 @@ fn write_numbers(
     requires { ⌜ (left ≤ length (now work)) × Readable (s .n) (s .points) (now table) (take left (now work)) × (2 * marks ≤ length (now work)) × (marks ≤ 1048576) ⌝ }
     requires room { ⌜ (crossed ≡ length (placesOf (s .n) (s .points) (now table) (take left (now work)))) × (crossed ≤ length (now out)) ⌝ }
     ensures numbers { λ _. ⌜ now (out .exit) ≡ inFront (notesOf (s .n) (s .points) (now (table .entry)) (take left (now (work .entry)))) (now (out .entry)) ⌝ }
-    ensures kept { λ _. ⌜ drop (2 * marks) (now (work .exit)) ≡ drop (2 * marks) (now (work .entry)) ⌝ }
+    ensures marked { λ _. ⌜ now (work .exit) ≡ markedWork (s .n) (s .points) (now (table .entry)) marks (now (work .entry)) ⌝ }
 {
     write_places(s, table, work, left, out);
     edges::mark(s, table, work, marks);
@@ -186,7 +186,7 @@ fn express_word(
     out: &mut [i32],
 ) -> Expressed
     requires { ⌜ Sound (s .n) (s .points) (now table) × (left ≤ length (now work)) × (2 * marks ≤ length (now work)) × (marks ≤ 1048576) ⌝ }
-    ensures outcome { λ r. ⌜ WordOutcome (s .n) (s .points) (now (table .entry)) (take left (now (work .entry))) (2 * marks) (now (work .entry)) (now (out .entry)) r (now (work .exit)) (now (out .exit)) ⌝ }
+    ensures outcome { λ r. ⌜ WordOutcome (s .n) (s .points) (now (table .entry)) (take left (now (work .entry))) marks (now (work .entry)) (now (out .entry)) r (now (work .exit)) (now (out .exit)) ⌝ }
 {
     if !is_home(s, table, work, left) {
         return Expressed::Outside;

@@ -1,7 +1,7 @@
 -- `expressions::write_numbers` meets its contract. Places, marks, and the numbers in the places' stead (`AnswerLaws`).
 -- Assumes nothing.
 use native.Mathlib.Omega.{arith}
-use Rattle.expressions.proofs.AnswerLaws.{marked-after, marks-kept, places-ready, numbers-written}
+use Rattle.expressions.proofs.AnswerLaws.{marked-after, places-ready, numbers-written}
 use borrow.Author.Needs.{needs}
 use Rattle.expressions.proofs.write_numbers.Statement.{statement}
 use Rattle.expressions.proofs.write_numbers.Tie as tie
@@ -22,7 +22,7 @@ same-length-2 : tie.Need-same-length-2
 same-length-2 c = search needs
 
 returns : tie.Need-returns
-returns c = (numbers-written _ _ (c .before .before .before .before .before .before .before .before .before .before .before .before .before .before .pre .0 .1) (c .before .before .before .before .before .before .before .before .before .before .before .before .before .before .pre .1 .0) (c .before .before .before .before .before .before .before .before .before .write-places .ensures) (c .before .number-places .ensures), marks-kept _ _ _ _ _ (c .before .before .before .before .before .before .mark .ensures))
+returns c = (numbers-written _ _ (c .before .before .before .before .before .before .before .before .before .before .before .before .before .before .pre .0 .1) (c .before .before .before .before .before .before .before .before .before .before .before .before .before .before .pre .1 .0) (c .before .before .before .before .before .before .before .before .before .write-places .ensures) (c .before .number-places .ensures), c .before .before .before .before .before .before .mark .ensures)
 
 pub write-numbers-spec : {M : Type 1} → statement M
 write-numbers-spec =
