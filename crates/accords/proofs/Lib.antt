@@ -3,3 +3,5 @@ pub mod FoldedTables
 pub mod FoldEquals
 pub mod BasisFolds
 pub mod AskMembers
+pub mod WordsBack
+pub mod CellsBack
