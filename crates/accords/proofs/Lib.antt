@@ -5,3 +5,5 @@ pub mod BasisFolds
 pub mod AskMembers
 pub mod WordsBack
 pub mod CellsBack
+pub mod HeadsBack
+pub mod FilesBack

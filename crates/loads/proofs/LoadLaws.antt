@@ -15,7 +15,7 @@ use lib.ListN.{length}
 use borrow.Author.Tests.{eq-eqb, ne-eqb, le-leb, not-false, not-true}
 use Rattle.theory.specs.Refusals.{Refusal as FirstCause, isAlphabet}
 use Rattle.theory.proofs.RefusalLaws.{below-alphabet}
-use Rattle.theory.specs.Examples.{listText}
+use Rattle.theory.specs.Texts.{listText}
 use Rattle.refusals.specs.declared.Refusal.{Refusal}
 use Rattle.refusals.specs.Given.{given, givenAs}
 use Rattle.numbers.specs.declared.NumberRead.{NumberRead}

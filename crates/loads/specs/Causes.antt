@@ -13,7 +13,7 @@ use lib.ListN.{length}
 use Rattle.theory.specs.Files.{numberLimit, numbersBytes, wordNumbers, Cause10, Cause11, Cause12}
 use Rattle.theory.specs.Refusals.{Cause1, Cause2, Cause6Lent, CauseShort}
 use Rattle.theory.specs.TableRefusals.{Cause8}
-use Rattle.theory.specs.Examples.{listText}
+use Rattle.theory.specs.Texts.{listText}
 use Rattle.table_files.specs.TableFiles.{numberCell}
 
 -- every number of a list is at most 4,294,967,295

@@ -12,7 +12,7 @@ use Prim.Native.Nat.{ℕ}
 use lib.Dec.{eqb}
 use lib.ListN.{length}
 use Rattle.theory.specs.Refusals.{Refusal as FirstCause, isAlphabet}
-use Rattle.theory.specs.Examples.{listText}
+use Rattle.theory.specs.Texts.{listText}
 use Rattle.refusals.specs.Given.{given}
 use Rattle.tables.specs.declared.Subgroup.{Subgroup}
 use Rattle.runs.specs.Runs.{numberAt, behind}
