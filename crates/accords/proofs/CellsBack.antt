@@ -10,13 +10,13 @@ use mathlib.Core.Logic.{by-cases}
 use mathlib.Core.Bool.{Bool, true, false, cond, not, true≢false}
 use mathlib.Core.Option.{Option, none, some}
 use mathlib.Core.List.{List, [], _∷_, _++_, map, append-nil}
-use Prim.Native.Nat.{ℕ, zero, suc, _+_, _-_, _*_, _/_, _%_, _≤_, _<_}
+use Prim.Native.Nat.{ℕ, suc, _+_, _-_, _*_, _/_, _%_, _≤_, _<_}
 use native.Mathlib.Decide.{ℕ-discrete}
 use native.Mathlib.Nat.{mul-zero, div-add-mod', mod-lt, div-lt-iff-lt-mul}
 use native.Mathlib.Omega.{arith}
-use lib.Dec.{eqb, ltb}
-use lib.ListN.{length, getD, take, drop, length-append, length-map, length-drop, drop-of-length-le}
-use lib.Seq.{length-take-le, getD-take, take-take, take-length}
+use lib.Dec.{ltb}
+use lib.ListN.{length, getD, take, drop, length-map, length-drop, drop-of-length-le}
+use lib.Seq.{length-take-le, getD-take, take-take}
 use borrow.Author.Tests.{eq-eqb, ne-eqb, le-ltb, ltb-false, not-false}
 use Rattle.theory.specs.Files.{numberLimit, numberBytes, numbersBytes, cellNumber}
 use Rattle.theory.specs.Letters.{usual}
@@ -33,8 +33,8 @@ use Rattle.theory.proofs.OneTable.{cells-of-rows}
 use Rattle.numbers.proofs.Numbers.{AllFit}
 use Rattle.saves.proofs.CellLaws.{number-absent, number-point}
 use Rattle.runs.specs.Runs.{Run, broken, whole, numberAt, behind, numbersAt}
-use Rattle.runs.proofs.BackLaws.{number-read, number-left, number-written, numbers-read, Stands, numbers-written}
-use Rattle.table_files.specs.TableFiles.{numberCell, TableIn, refused, faulty, sound, byFault, cellsIn, pointsIn, tableIn}
+use Rattle.runs.proofs.BackLaws.{number-read, number-left, number-written, numbers-read, numbers-written}
+use Rattle.table_files.specs.TableFiles.{numberCell, refused, faulty, sound, byFault, cellsIn, pointsIn, tableIn}
 
 -- ── A cell and its number ──
 

@@ -1,91 +1,45 @@
 -- What `save_table`, `save_list` and `load` say of one another (document 01, 'The saved file').
---   saved-table-loads-back : what `save_table` writes loads as the table, into any lent table with room for it
---   table-file-saves-back  : a file that loads as a table, saved from the cells read, is the same bytes
+--   saved-table-loads-back  : what `save_table` writes loads as the table, into any lent table with room for it
+--   table-file-saves-back   : a file that loads as a table, saved from the cells read, is the same bytes
 --   table-file-can-be-saved : and saving it is not refused where the output has room for the file
---   table-files-one        : two files that load as one table are the same bytes
+--   table-files-one         : two files that load as one table are the same bytes
 --   saved-list-loads-back, list-file-saves-back, list-file-can-be-saved, list-files-one : the same of a list and its text
 -- Assumes nothing.
 use mathlib.Core.Path.{_≡_, refl, sym, _∙_, ap, subst}
-use mathlib.Core.Bool.{true, not, true≢false}
-use mathlib.Core.Option.{Option, none, some}
-use mathlib.Core.List.{List, [], _∷_, _++_, map}
+use mathlib.Core.Bool.{true}
+use mathlib.Core.Option.{none}
+use mathlib.Core.List.{List, _∷_, _++_, map}
 use Prim.Native.Nat.{ℕ, _+_, _*_, _≤_}
 use native.Mathlib.Omega.{arith}
 use lib.ListN.{length, take, drop, length-append}
 use lib.Seq.{take-at, drop-at, length-take-le, take-length}
-use borrow.Author.Tests.{le-ltb}
 use Rattle.theory.specs.Files.{numbersBytes, tableFile, cellNumber, listFile}
 use Rattle.theory.specs.Letters.{wordsOf}
-use Rattle.theory.specs.Refusals.{Refusal as FirstCause, pointLimit, textRefusal}
+use Rattle.theory.specs.Refusals.{pointLimit, textRefusal}
 use Rattle.theory.specs.TableRefusals.{checkRefusal}
 use Rattle.theory.specs.Texts.{listText}
 use Rattle.theory.proofs.RefusalLaws.{alphabet-in}
-use Rattle.theory.proofs.TableRefusalLaws.{else-none, lent-in, in-lent, text-alphabet}
+use Rattle.theory.proofs.TableRefusalLaws.{lent-in, in-lent, text-alphabet}
 use Rattle.theory.proofs.ListTexts.{words-of-text, text-fine}
-use Rattle.refusals.specs.declared.Refusal.{Refusal}
 use Rattle.saves.specs.declared.Saved.{Saved}
-use Rattle.saves.specs.declared.Saved.the-variants.{Refused, Written}
-use Rattle.saves.specs.Saves.{
-  shortRefusal,
-  savedFor,
-  outFor,
-  SaveOutcome,
-  saveTableRefusal,
-  SaveTableOutcome,
-  saveListRefusal,
-  SaveListOutcome,
-}
+use Rattle.saves.specs.declared.Saved.the-variants.{Written}
+use Rattle.saves.specs.Saves.{SaveTableOutcome, SaveListOutcome}
 use Rattle.saves.proofs.ListLaws.{savable-list}
 use Rattle.table_files.specs.TableFiles.{sound}
 use Rattle.list_files.specs.ListFiles.{listed}
 use Rattle.loads.specs.declared.Loaded.{Loaded}
 use Rattle.loads.specs.declared.Found.the-variants.{Table, List as ListMet}
 use Rattle.loads.specs.Loads.{tableMet, listMet, fileIn, answerWith, loadedFor, tableAfter, textAfter, LoadOutcome}
-use Rattle.accords.proofs.CellsBack.{Fine, fine, fine-check, same-rows}
-use Rattle.accords.proofs.WordsBack.{text-of-words}
+use Rattle.accords.proofs.CellsBack.{Fine, fine-check, same-rows}
+use Rattle.accords.proofs.TextsBack.{text-of-words}
+use Rattle.accords.proofs.SavedFiles.{table-saved, list-saved, table-saves, list-saves}
 use Rattle.accords.proofs.HeadsBack.{table-found, list-found, FoundTable, found-table-file, FoundList, found-list-file, table-said, list-said}
-
--- ── What was saved ──
-
-refused-written : {r : Refusal} {k : ℕ} → Written k ≡ Refused r → ⊥
-refused-written e = true≢false cc
-
-written-one : {k l : ℕ} → Written k ≡ Written l → k ≡ l
-written-one e = cc
-
--- what was written is the file, and nothing refused it
-saved : (file : List ℕ) (refusal : Option FirstCause) (out : List ℕ) (k : ℕ) (out′ : List ℕ) → SaveOutcome file refusal out (Written k) out′
-    → (refusal ≡ none) × (take k out′ ≡ file)
-saved file (some r) out k out′ h = absurd (refused-written (h .answer))
-saved file none out k out′ h =
-    (refl, ap (take k) (h .cells) ∙ take-at file (drop (length file) out) k (sym (written-one (h .answer))))
-
--- what is not refused is written
-save : (file : List ℕ) (refusal : Option FirstCause) (out : List ℕ) (r : Saved) (out′ : List ℕ) → SaveOutcome file refusal out r out′ → refusal ≡ none
-    → (r ≡ Written (length file)) × (take (length file) out′ ≡ file)
-save file refusal out r out′ h e = (
-  h .answer ∙ ap (savedFor file) e,
-  ap (take (length file)) (h .cells ∙ ap (outFor file out) e) ∙ take-at file (drop (length file) out) (length file) refl,
-)
-
-table-clear : (n N : ℕ) (t : List ℕ) (room : ℕ) → checkRefusal n N t ≡ none → length (tableFile n N t) ≤ room → saveTableRefusal n N t room ≡ none
-unfolding saveTableRefusal shortRefusal
-table-clear n N t room e h = rw (e, le-ltb room (length (tableFile n N t)) h)
-
-list-clear : (n : ℕ) (list : List ℕ) (room : ℕ) → textRefusal n true list ≡ none → length (listFile n (wordsOf list)) ≤ room → saveListRefusal n list room ≡ none
-unfolding saveListRefusal shortRefusal
-list-clear n list room e h = rw (e, le-ltb room (length (listFile n (wordsOf list))) h)
 
 -- ── Tables: saved, then loaded ──
 
 module _ (n N : ℕ) (t out : List ℕ) (k : ℕ) (out′ : List ℕ) (h : SaveTableOutcome n N t out (Written k) out′) where
   table-fine : Fine n N t
-  unfolding saveTableRefusal
-  table-fine =
-      fine n N t (else-none (checkRefusal n N t) _ (saved (tableFile n N t) (saveTableRefusal n N t (length out)) out k out′ h .0) .0)
-
-  table-whole : take k out′ ≡ tableFile n N t
-  table-whole = saved (tableFile n N t) (saveTableRefusal n N t (length out)) out k out′ h .1
+  table-fine = table-saved n N t out k out′ h .0
 
   pub saved-table-loads-back : (table text : List ℕ) (r : Loaded) (table′ text′ : List ℕ) → LoadOutcome (take k out′) table text r table′ text′
       → N * (2 * n) ≤ length table
@@ -102,7 +56,7 @@ module _ (n N : ℕ) (t out : List ℕ) (k : ℕ) (out′ : List ℕ) (h : SaveT
       rows = take (N * (2 * n)) t
 
       found : fileIn (length table) (length text) (take k out′) ≡ tableMet n (sound N rows)
-      found = ap (fileIn (length table) (length text)) table-whole ∙ table-found n N t (length table) (length text) table-fine room
+      found = ap (fileIn (length table) (length text)) (table-saved n N t out k out′ h .1) ∙ table-found n N t (length table) (length text) table-fine room
 
       cells : table′ ≡ rows ++ drop (length rows) table
       cells = l .cells ∙ ap (tableAfter table) found
@@ -128,6 +82,10 @@ module _ (file table text : List ℕ) (n N : ℕ) (table′ text′ : List ℕ) 
         cells = l .cells ∙ ap (tableAfter table) (s .1);
       }
 
+  -- the rows of what was found are all of it
+  again : take (N * (2 * n)) (loads .t) ≡ loads .t
+  again = ap (λ i. take i (loads .t)) (sym (loads .found .stands .rows)) ∙ take-length (loads .t)
+
   loaded-rows : take (N * (2 * n)) table′ ≡ loads .t
   loaded-rows =
       ap (take (N * (2 * n))) (loads .cells)
@@ -137,10 +95,8 @@ module _ (file table text : List ℕ) (n N : ℕ) (table′ text′ : List ℕ) 
   loaded-file : file ≡ tableFile n N table′
   unfolding tableFile
   loaded-file = loads .found .whole ∙ ap (λ m. numbersBytes (1 ∷ n ∷ N ∷ map cellNumber m)) (again ∙ sym loaded-rows)
-    where
-      again : take (N * (2 * n)) (loads .t) ≡ loads .t
-      again = ap (λ i. take i (loads .t)) (sym (loads .found .stands .rows)) ∙ take-length (loads .t)
 
+  -- and the table as it was left is not refused
   loaded-fine : checkRefusal n N table′ ≡ none
   loaded-fine =
       fine-check n N table′ (loads .found .alphabet) (in-lent n N (length table′) (lent .0) (lent .1) room)
@@ -158,18 +114,14 @@ module _ (file table text : List ℕ) (n N : ℕ) (table′ text′ : List ℕ) 
             length-append (loads .t) (drop (length (loads .t)) table),
           )
 
-      again : take (N * (2 * n)) (loads .t) ≡ loads .t
-      again = ap (λ i. take i (loads .t)) (sym (loads .found .stands .rows)) ∙ take-length (loads .t)
-
   pub table-file-saves-back : (out : List ℕ) (k : ℕ) (out′ : List ℕ) → SaveTableOutcome n N table′ out (Written k) out′ → take k out′ ≡ file
-  table-file-saves-back out k out′ h = table-whole n N table′ out k out′ h ∙ sym loaded-file
+  table-file-saves-back out k out′ h = table-saved n N table′ out k out′ h .1 ∙ sym loaded-file
 
   pub table-file-can-be-saved : (out : List ℕ) (r : Saved) (out′ : List ℕ) → SaveTableOutcome n N table′ out r out′ → length file ≤ length out
       → (r ≡ Written (length file)) × (take (length file) out′ ≡ file)
   table-file-can-be-saved out r out′ h room =
-      let s = save (tableFile n N table′) (saveTableRefusal n N table′ (length out)) out r out′ h
-      (table-clear n N table′ (length out) loaded-fine (subst (λ f. length f ≤ length out) loaded-file room)) in
-      subst (λ f. (r ≡ Written (length f)) × (take (length f) out′ ≡ f)) (sym loaded-file) s
+      subst (λ f. (r ≡ Written (length f)) × (take (length f) out′ ≡ f)) (sym loaded-file)
+      (table-saves n N table′ out r out′ h loaded-fine (subst (λ f. length f ≤ length out) loaded-file room))
 
 pub table-files-one : (file table text : List ℕ) (n N : ℕ) (table′ text′ : List ℕ) → LoadOutcome file table text (answerWith n N Table) table′ text′
     → (other room rest room′ rest′ : List ℕ) → LoadOutcome other room rest (answerWith n N Table) room′ rest′
@@ -184,12 +136,7 @@ table-files-one file table text n N table′ text′ l other room rest room′ r
 
 module _ (n : ℕ) (list out : List ℕ) (k : ℕ) (out′ : List ℕ) (h : SaveListOutcome n list out (Written k) out′) where
   list-fine : textRefusal n true list ≡ none
-  unfolding saveListRefusal
-  list-fine =
-      else-none (textRefusal n true list) _ (saved (listFile n (wordsOf list)) (saveListRefusal n list (length out)) out k out′ h .0) .0
-
-  list-whole : take k out′ ≡ listFile n (wordsOf list)
-  list-whole = saved (listFile n (wordsOf list)) (saveListRefusal n list (length out)) out k out′ h .1
+  list-fine = list-saved n list out k out′ h .0
 
   pub saved-list-loads-back : (table text : List ℕ) (r : Loaded) (table′ text′ : List ℕ) → LoadOutcome (take k out′) table text r table′ text′
       → length list ≤ length text
@@ -207,7 +154,7 @@ module _ (n : ℕ) (list out : List ℕ) (k : ℕ) (out′ : List ℕ) (h : Save
 
       found : fileIn (length table) (length text) (take k out′) ≡ listMet n (listed (wordsOf list))
       found =
-          ap (fileIn (length table) (length text)) list-whole
+          ap (fileIn (length table) (length text)) (list-saved n list out k out′ h .1)
           ∙ list-found n (wordsOf list) (length table) (length text) (text-alphabet n true list list-fine) (text-of-words n list list-fine .1)
           (omega (arith, ap length same, savable-list n list list-fine .1)) (omega (arith, ap length same, room))
 
@@ -241,23 +188,24 @@ module _ (file table text : List ℕ) (n words bytes : ℕ) (table′ text′ : 
       ap wordsOf (lists .text-read)
       ∙ words-of-text (2 * n) (lists .ws) (omega (arith, alphabet-in n (lists .found .alphabet) .1)) (lists .found .stands .below)
 
+  -- the file is that of the text read
   loaded-list : file ≡ listFile n (wordsOf (take bytes text′))
   loaded-list = lists .found .whole ∙ ap (listFile n) (sym loaded-words)
 
+  -- and the text read is not refused
   text-unrefused : textRefusal n true (take bytes text′) ≡ none
   text-unrefused =
       ap (textRefusal n true) (lists .text-read)
       ∙ text-fine n (lists .ws) (lists .found .alphabet) (lists .found .stands .below) (lists .found .stands .short)
 
   pub list-file-saves-back : (out : List ℕ) (k : ℕ) (out′ : List ℕ) → SaveListOutcome n (take bytes text′) out (Written k) out′ → take k out′ ≡ file
-  list-file-saves-back out k out′ h = list-whole n (take bytes text′) out k out′ h ∙ sym loaded-list
+  list-file-saves-back out k out′ h = list-saved n (take bytes text′) out k out′ h .1 ∙ sym loaded-list
 
   pub list-file-can-be-saved : (out : List ℕ) (r : Saved) (out′ : List ℕ) → SaveListOutcome n (take bytes text′) out r out′ → length file ≤ length out
       → (r ≡ Written (length file)) × (take (length file) out′ ≡ file)
   list-file-can-be-saved out r out′ h room =
-      let s = save (listFile n (wordsOf (take bytes text′))) (saveListRefusal n (take bytes text′) (length out)) out r out′ h
-      (list-clear n (take bytes text′) (length out) text-unrefused (subst (λ f. length f ≤ length out) loaded-list room)) in
-      subst (λ f. (r ≡ Written (length f)) × (take (length f) out′ ≡ f)) (sym loaded-list) s
+      subst (λ f. (r ≡ Written (length f)) × (take (length f) out′ ≡ f)) (sym loaded-list)
+      (list-saves n (take bytes text′) out r out′ h text-unrefused (subst (λ f. length f ≤ length out) loaded-list room))
 
 pub list-files-one : (file table text : List ℕ) (n words bytes : ℕ) (table′ text′ : List ℕ)
     → LoadOutcome file table text (answerWith n 0 (ListMet words bytes)) table′ text′

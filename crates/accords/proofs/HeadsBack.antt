@@ -7,7 +7,7 @@
 use mathlib.Core.Path.{_≡_, refl, sym, _∙_, ap, subst}
 use mathlib.Core.Bool.{Bool, true, false, cond, _||_, true≢false}
 use mathlib.Core.Option.{Option, none, some}
-use mathlib.Core.List.{List, [], _∷_, _++_, map}
+use mathlib.Core.List.{List, _∷_, _++_, map}
 use Prim.Native.Nat.{ℕ, _*_, _≤_}
 use native.Mathlib.Omega.{arith}
 use lib.Dec.{eqb}
@@ -15,7 +15,7 @@ use lib.ListN.{length, take, drop}
 use lib.Seq.{take-length}
 use borrow.Author.Tests.{eqb-true}
 use Rattle.theory.specs.Files.{numberLimit, numberBytes, numbersBytes, cellNumber, tableFile, wordNumbers, listFile}
-use Rattle.theory.specs.Refusals.{Refusal as FirstCause, textLimit, isAlphabet}
+use Rattle.theory.specs.Refusals.{textLimit, isAlphabet}
 use Rattle.theory.specs.Texts.{listText}
 use Rattle.theory.proofs.WordLaws.{byTest}
 use Rattle.theory.proofs.RefusalLaws.{alphabet-in}

@@ -7,7 +7,7 @@
 use mathlib.Core.Path.{_≡_, refl, sym, _∙_, ap, subst}
 use mathlib.Core.Option.{Option, none, some}
 use mathlib.Core.List.{List, [], _∷_, _++_, append-assoc}
-use Prim.Native.Nat.{ℕ, zero, suc, _+_, _≤_, _<_}
+use Prim.Native.Nat.{ℕ, zero, suc, _+_, _≤_}
 use native.Mathlib.Omega.{arith}
 use lib.ListN.{length, drop, length-append}
 use lib.Seq.{drop-append-seam, drop-drop}
@@ -15,9 +15,9 @@ use borrow.Author.Tests.{lt-ltb}
 use Rattle.theory.specs.Files.{numberLimit, numberBytes, numbersBytes}
 use Rattle.theory.proofs.ListTexts.{LettersBelow}
 use Rattle.numbers.proofs.Numbers.{AllFit}
-use Rattle.runs.specs.Runs.{Run, broken, whole, brokenAt, onRun, runOn, numberAt, behind, numbersAt, Whole, valuesOf, placeOf}
+use Rattle.runs.specs.Runs.{whole, onRun, runOn, numberAt, behind, numbersAt, Whole, valuesOf, placeOf}
 use Rattle.runs.proofs.Standing.{standing-sound, standing-complete}
-use Rattle.runs.proofs.RunLaws.{no-run, Split, split}
+use Rattle.runs.proofs.RunLaws.{no-run, split}
 
 -- ── One number ──
 
