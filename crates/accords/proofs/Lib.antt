@@ -3,3 +3,9 @@ pub mod FoldedTables
 pub mod FoldEquals
 pub mod BasisFolds
 pub mod AskMembers
+pub mod TextsBack
+pub mod WordsBack
+pub mod CellsBack
+pub mod HeadsBack
+pub mod SavedFiles
+pub mod FilesBack

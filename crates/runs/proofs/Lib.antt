@@ -2,3 +2,4 @@
 pub mod Standing
 pub mod SkipTurn
 pub mod RunLaws
+pub mod BackLaws
