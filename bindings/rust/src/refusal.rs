@@ -113,7 +113,7 @@ impl fmt::Display for Refusal {
             Cause::Work => write!(f, "work buffer too short: {place} cells needed"),
             Cause::Canonical => write!(f, "table not canonical: cell {place} is the first that breaks a rule"),
             Cause::Output => write!(f, "output too short: length {place} needed"),
-            Cause::Number => write!(f, "number cut, too long or too big at byte {place} of the file"),
+            Cause::Number => write!(f, "number in the file cut, too long or too big at byte {place}"),
             Cause::Kind => write!(f, "no saved file: it starts with neither 1 (a table) nor 2 (a list)"),
             Cause::After => write!(f, "bytes behind the end of the file, from byte {place}"),
             Cause::Unknown(number) => write!(f, "refused by number {number} at {place}, which this crate does not know"),
