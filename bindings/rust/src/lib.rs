@@ -39,3 +39,8 @@ pub use subgroup::{loaded, saved_list, Saved};
 
 /// The cell of a letter that leads nowhere.
 pub const ABSENT: u32 = 4_294_967_295;
+
+// The examples of the guide are run as tests.
+#[cfg(all(doctest, feature = "whole"))]
+#[doc = include_str!("../../../docs/USING.md")]
+struct Using;
