@@ -77,7 +77,7 @@ impl Cause {
 /// assert_eq!(refusal.place, 4);
 /// assert_eq!(refusal.to_string(), "letter beyond n at byte 4");
 /// ```
-#[derive(Clone, Copy, Debug, PartialEq, Eq, Hash)]
+#[derive(Clone, Copy, PartialEq, Eq, Hash)]
 pub struct Refusal {
     /// Why.
     pub cause: Cause,
@@ -121,6 +121,13 @@ impl fmt::Display for Refusal {
     }
 }
 
+/// Number, place and words: this is what a `main` that ends with a refusal shows.
+impl fmt::Debug for Refusal {
+    fn fmt(&self, f: &mut fmt::Formatter<'_>) -> fmt::Result {
+        write!(f, "refused {} {}: {self}", self.number(), self.place)
+    }
+}
+
 impl Error for Refusal {}
 
 #[cfg(test)]
@@ -151,6 +158,7 @@ mod tests {
         assert_eq!(words(4), "letter beyond n at byte 17");
         assert_eq!(words(7), "work buffer too short: 17 cells needed");
         assert_eq!(words(9), "output too short: length 17 needed");
+        assert_eq!(format!("{:?}", Refusal::unless_0(4, 17).unwrap_err()), "refused 4 17: letter beyond n at byte 17");
         assert!((1..=13).all(|number| (1..=13).all(|other| number == other || words(number) != words(other))));
     }
 }
