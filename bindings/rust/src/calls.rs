@@ -339,8 +339,7 @@ pub fn express(table: Table, query: &[u8], work: &mut [u32], out: &mut [i32]) ->
 /// assert_eq!(shorter(27, b"", b""), Shorter::Neither);
 /// ```
 pub fn shorter<'a>(n: u64, first: &'a [u8], second: &'a [u8]) -> Shorter<'a> {
-    let reply =
-        unsafe { raw::subgroups_shorter(n, first.as_ptr(), first.len(), second.as_ptr(), second.len()) };
+    let reply = unsafe { raw::subgroups_shorter(n, first.as_ptr(), first.len(), second.as_ptr(), second.len()) };
     match reply.which {
         1 => Shorter::First(first),
         2 => Shorter::Second(second),
@@ -386,8 +385,7 @@ pub fn save_table(table: Table, out: &mut [u8]) -> Result<usize, Refusal> {
 /// ```
 #[cfg(feature = "whole")]
 pub fn save_list(n: u64, list: &[u8], out: &mut [u8]) -> Result<usize, Refusal> {
-    let reply =
-        unsafe { raw::subgroups_save_list(n, list.as_ptr(), list.len(), out.as_mut_ptr(), out.len()) };
+    let reply = unsafe { raw::subgroups_save_list(n, list.as_ptr(), list.len(), out.as_mut_ptr(), out.len()) };
     Refusal::unless_0(reply.number, reply.place)?;
     Ok(reply.bytes as usize)
 }
@@ -411,14 +409,7 @@ pub fn save_list(n: u64, list: &[u8], out: &mut [u8]) -> Result<usize, Refusal> 
 #[cfg(feature = "whole")]
 pub fn load(file: &[u8], table: &mut [u32], text: &mut [u8]) -> Result<Loaded, Refusal> {
     let reply = unsafe {
-        raw::subgroups_load(
-            file.as_ptr(),
-            file.len(),
-            table.as_mut_ptr(),
-            table.len(),
-            text.as_mut_ptr(),
-            text.len(),
-        )
+        raw::subgroups_load(file.as_ptr(), file.len(), table.as_mut_ptr(), table.len(), text.as_mut_ptr(), text.len())
     };
     Refusal::unless_0(reply.number, reply.place)?;
     Ok(match reply.kind {

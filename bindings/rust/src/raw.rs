@@ -168,13 +168,7 @@ extern "C" {
     ) -> WrittenReply;
 
     #[cfg(feature = "whole")]
-    pub fn subgroups_save_list(
-        n: u64,
-        list: *const u8,
-        list_len: usize,
-        out: *mut u8,
-        out_len: usize,
-    ) -> WrittenReply;
+    pub fn subgroups_save_list(n: u64, list: *const u8, list_len: usize, out: *mut u8, out_len: usize) -> WrittenReply;
 
     #[cfg(feature = "whole")]
     pub fn subgroups_load(

@@ -116,7 +116,9 @@ impl fmt::Display for Refusal {
             Cause::Number => write!(f, "number in the file cut, too long or too big at byte {place}"),
             Cause::Kind => write!(f, "no saved file: it starts with neither 1 (a table) nor 2 (a list)"),
             Cause::After => write!(f, "bytes behind the end of the file, from byte {place}"),
-            Cause::Unknown(number) => write!(f, "refused by number {number} at {place}, which this crate does not know"),
+            Cause::Unknown(number) => {
+                write!(f, "refused by number {number} at {place}, which this crate does not know")
+            }
         }
     }
 }
