@@ -116,7 +116,7 @@ pub fn run(input: &mut Input) -> String {
     let kind = input.take(1)[0];
     if kind == b'l' {
         let (n, first, second) = (input.number(8), input.length(), input.length());
-        line.handed(engine::shorter(n, input.take(first), input.take(second)));
+        line.handed(engine::shorter(n, &input.take(first).to_vec(), &input.take(second).to_vec()));
         return line.text;
     }
     let mut t = Table::read(input);
@@ -124,7 +124,7 @@ pub fn run(input: &mut Input) -> String {
         b'c' => line.checked(engine::check(t.n, t.points, t.cells.part())),
         b'm' => {
             let (query, mut work) = (input.length(), lent::cells(input.length()));
-            let query = input.take(query);
+            let query = &*input.take(query).to_vec();
             line.said(engine::member(t.n, t.points, t.cells.part(), query, work.part()));
             line.cells(work.part());
             line.kept(work.kept());

@@ -1,10 +1,11 @@
-//! Buffers to lend, between guards that no call may change.
+//! Buffers to lend, between guards that no call may change. Built with --cfg exact there are no guards: then a tool that
+//! watches memory sees every access beyond a buffer.
 
 const CELL_BEFORE: u32 = 777;
 const CELL_GUARD: u32 = 0x5EED_5EED;
 const BYTE_BEFORE: u8 = 77;
 const BYTE_GUARD: u8 = 0xA5;
-const GUARDS: usize = 16;
+const GUARDS: usize = if cfg!(exact) { 0 } else { 16 };
 
 /// Items that can be lent, with guards before and behind them.
 pub struct Lent<T> {

@@ -89,6 +89,9 @@ static void test_fold(void)
     check("fold: absent after the rows", all(table, 8, TABLE, SUBGROUPS_ABSENT));
     check("fold: later cells kept", all(table, TABLE, TABLE + AFTER, 777));
     check("fold: work", cleared(WORK));
+    lend();
+    got = subgroups_fold(2, NULL, 0, table, 4, work, 8);
+    check("fold: no list", IS(got, 0, 0, 1, 0, 0, 0, 0, 1, 0, 0, 0) && all(table, 0, 4, SUBGROUPS_ABSENT) && cleared(8));
     fold_refused("fold: n", fold(UINT64_C(4294967298), list, TABLE, WORK), SUBGROUPS_ALPHABET, 0);
     fold_refused("fold: bytes", fold(2, text, TABLE, WORK), SUBGROUPS_BYTES, 0);
     fold_refused("fold: byte", fold(2, "ab\na b\n", TABLE, WORK), SUBGROUPS_BYTE, 4);
@@ -192,6 +195,8 @@ static void test_member(void)
     check("member: a", IS(got, 0, 0, 0));
     check("member: work outside", cleared(1));
     lend_rows(0, 1);
+    got = subgroups_member(2, 2, table, 8, NULL, 0, NULL, 0);
+    check("member: no query", IS(got, 0, 0, 1) && cleared(0));
     member_refused("member: n", member(27, 2, 8, "a", 1), SUBGROUPS_ALPHABET, 0);
     member_refused("member: bytes", member(2, 2, 8, text, 1), SUBGROUPS_BYTES, 0);
     member_refused("member: byte", member(2, 2, 8, "a\n", 2), SUBGROUPS_BYTE, 1);

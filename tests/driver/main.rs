@@ -109,7 +109,7 @@ fn run_list(mode: &str, input: &mut Input) -> String {
     let n = input.number(8);
     let (list, table, work) = (input.length(), input.length(), input.length());
     let query = if mode == "asks" { input.length() } else { 0 };
-    let (list, query) = (input.take(list), input.take(query));
+    let (list, query) = (&*input.take(list).to_vec(), &*input.take(query).to_vec()); // apart from all others
     let (mut table, mut work) = (lent::cells(table), lent::cells(work));
     let mut line = Line::default();
     if mode == "asks" {
