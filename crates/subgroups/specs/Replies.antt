@@ -5,6 +5,8 @@
 --   answerReply a    == 1 for inside, 0 for outside
 --   equalityReply e  == 1 for equal, 0 for not
 --   basisReply a     == the words and bytes of a basis
+--   judgedReply j    == 1 for normal, 0 for other
+--   expressedReply e == 1 and how many numbers for inside, 0 for outside
 --   savedReply s     == the bytes of a file
 --   handedReply w a b == which of the lists a and b, and its bytes
 -- Cited by `Outcomes` and by the functions that turn answers into replies. Assumes nothing.
@@ -27,11 +29,16 @@ use Rattle.equals.specs.declared.Equality.{Equality}
 use Rattle.equals.specs.declared.Equality.the-variants.{Refused as EqualRefused, Yes, No}
 use Rattle.bases.specs.declared.BasisAnswer.{BasisAnswer}
 use Rattle.bases.specs.declared.BasisAnswer.the-variants.{Refused as BasisRefused, Written as BasisWritten}
+use Rattle.normals.specs.declared.Judged.{Judged}
+use Rattle.normals.specs.declared.Judged.the-variants.{Refused as JudgeRefused, Normal, Other}
+use Rattle.expressions.specs.declared.Expressed.{Expressed}
+use Rattle.expressions.specs.declared.Expressed.the-variants.{Refused as ExpressRefused, Inside as ExpressInside, Outside as ExpressOutside}
 use Rattle.saves.specs.declared.Saved.{Saved}
 use Rattle.saves.specs.declared.Saved.the-variants.{Refused as SaveRefused, Written as FileWritten}
 use Rattle.subgroups.specs.declared.FoldReply.{FoldReply}
 use Rattle.subgroups.specs.declared.CheckReply.{CheckReply}
 use Rattle.subgroups.specs.declared.YesReply.{YesReply}
+use Rattle.subgroups.specs.declared.ExpressReply.{ExpressReply}
 use Rattle.subgroups.specs.declared.WrittenReply.{WrittenReply}
 use Rattle.subgroups.specs.declared.PartReply.{PartReply}
 
@@ -106,6 +113,16 @@ abbrev pub equalityReply : Equality → YesReply
 equalityReply (EqualRefused r) = refusedYes r
 equalityReply Yes = said 1
 equalityReply No = said 0
+
+abbrev pub judgedReply : Judged → YesReply
+judgedReply (JudgeRefused r) = refusedYes r
+judgedReply Normal = said 1
+judgedReply Other = said 0
+
+abbrev pub expressedReply : Expressed → ExpressReply
+expressedReply (ExpressRefused r) = record { number = r .number; place = r .place; yes = 0; count = 0 }
+expressedReply (ExpressInside k) = record { number = 0; place = 0; yes = 1; count = k }
+expressedReply ExpressOutside = record { number = 0; place = 0; yes = 0; count = 0 }
 
 -- ── What is written ──
 
