@@ -26,6 +26,16 @@ pub struct YesReply {
     pub yes: u64,
 }
 
+/// The answer to expressing: a refusal, or 1 for a member and how many numbers were written, or 0.
+#[repr(C)]
+#[derive(Clone, Copy, Default, Debug, PartialEq, Eq)]
+pub struct ExpressReply {
+    pub number: u64,
+    pub place: u64,
+    pub yes: u64,
+    pub count: u64,
+}
+
 /// The answer to checking a table: a refusal, or its counts.
 #[repr(C)]
 #[derive(Clone, Copy, Default, Debug, PartialEq, Eq)]

@@ -50,6 +50,13 @@ typedef struct {
     uint64_t yes; /* 1 for yes, 0 for no */
 } YesReply;
 
+/* The answer to expressing. */
+typedef struct {
+    uint64_t number, place;
+    uint64_t yes;   /* 1 for a member, 0 for another word */
+    uint64_t count; /* numbers written */
+} ExpressReply;
+
 /* The answer to checking a table. */
 typedef struct {
     uint64_t number, place;
@@ -94,6 +101,20 @@ YesReply subgroups_member(uint64_t n, uint64_t points, const uint32_t *table, si
 YesReply subgroups_equal(uint64_t n, uint64_t points, const uint32_t *table, size_t table_len,
                          uint64_t other_n, uint64_t other_points, const uint32_t *other, size_t other_len);
 
+/* Says whether a table's subgroup is normal: every basis word, read from each point one letter away from the base,
+ * leads back to that point. Work of 4 * points cells.
+ * Refusals 1, 6, 7, 8: no cell changes. */
+YesReply subgroups_normal(uint64_t n, uint64_t points, const uint32_t *table, size_t table_len,
+                          uint32_t *work, size_t work_len);
+
+/* Expresses a query in the basis of a table's subgroup: k for basis word k, -k for its inverse, in reading order;
+ * work of the query's length. Of a word that is no member no number is written.
+ * Refusals 1, 2, 3 or 4, 6, 7, 8: no cell and no number changes. 9: the needed work cells are 0, and no number
+ * changes. */
+ExpressReply subgroups_express(uint64_t n, uint64_t points, const uint32_t *table, size_t table_len,
+                               const uint8_t *query, size_t query_len,
+                               uint32_t *work, size_t work_len, int32_t *out, size_t out_len);
+
 /* Writes the basis of a table's subgroup as a list; work of 4 * points cells.
  * Refusals 1, 6, 7, 8: no cell and no byte changes. 9: the needed work cells are 0, and no byte changes. */
 WrittenReply subgroups_basis(uint64_t n, uint64_t points, const uint32_t *table, size_t table_len,
@@ -103,6 +124,10 @@ WrittenReply subgroups_basis(uint64_t n, uint64_t points, const uint32_t *table,
  * Refusals 1, 6, 8, 9: no byte changes. */
 WrittenReply subgroups_save_table(uint64_t n, uint64_t points, const uint32_t *table, size_t table_len,
                                   uint8_t *out, size_t out_len);
+
+/* Saves a list as a file of kind 2.
+ * Refusals 1, 2, 3 or 4, 5, 9: no byte changes. */
+WrittenReply subgroups_save_list(uint64_t n, const uint8_t *list, size_t list_len, uint8_t *out, size_t out_len);
 
 /* Says which of two lists has fewer letters, the first on a tie; a list that is refused never comes before one that
  * is not. Nothing is refused: where both lists are, or n is, the reply is 0 and 0. */

@@ -16,6 +16,8 @@ from second.called import (chain_call, fresh_calls, refused_calls, same_chain, s
                            small_graph_calls, stored_calls)
 from second.calls import ask, fold  # noqa: E402
 from second.corpus import random_word, spoilt  # noqa: E402
+from second.expressed import finite_calls, refused_expressions  # noqa: E402
+from second.filed import refused_lists  # noqa: E402
 from second.folding import fold_words, fold_words_quickly  # noqa: E402
 from second.lists import KINDS, long_list, padded, some_list  # noqa: E402
 from second.stored import INPUT, OUTPUT, head, lent, needed, reply_items  # noqa: E402
@@ -29,6 +31,7 @@ BAD_N = [0, 27, 28, 256, 258, 65536, 2 ** 32, 2 ** 32 + 1, 2 ** 40, 2 ** 63, 2 *
 PAIRWISE_LETTERS = 300
 TABLES = 500
 PAIRS = 400
+ACTIONS = 150
 MOST_POINTS = 1048577
 
 
@@ -261,8 +264,9 @@ def main(driver):
     tallies = [run(driver, "folds", [*good_folds(chance), *bad_folds(chance)], fold_line), all_inside(inside),
                run(driver, "asks", inside + [*asks(chance)], ask_line), run_stored(driver),
                run_calls(driver, "calls", [*small_graph_calls(chance), *fresh_calls(chance, TABLES),
-                                           *stored_calls(chance), *shorter_calls(chance, PAIRS),
-                                           *refused_calls()]),
+                                           *stored_calls(chance), *finite_calls(chance, ACTIONS),
+                                           *shorter_calls(chance, PAIRS), *refused_calls(),
+                                           *refused_expressions(), *refused_lists()]),
                run_chains(driver)]
     passed, failed = (sum(part) for part in zip(*tallies))
     print("%d passed, %d failed" % (passed, failed))
