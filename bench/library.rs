@@ -1,7 +1,7 @@
 //! The proved library, called through its C interface.
 #![allow(dead_code)] // the benchmark does not call all of it
 
-use crate::replies::{CheckReply, ExpressReply, FoldReply, PartReply, WrittenReply, YesReply};
+use crate::replies::{CheckReply, ExpressReply, FoldReply, LoadReply, PartReply, WrittenReply, YesReply};
 
 extern "C" {
     fn subgroups_fold(
@@ -39,6 +39,9 @@ extern "C" {
     fn subgroups_save_list(
         n: u64, list: *const u8, list_len: usize, out: *mut u8, out_len: usize,
     ) -> WrittenReply;
+    fn subgroups_load(
+        file: *const u8, file_len: usize, table: *mut u32, table_len: usize, text: *mut u8, text_len: usize,
+    ) -> LoadReply;
     fn subgroups_shorter(
         n: u64, first: *const u8, first_len: usize, second: *const u8, second_len: usize,
     ) -> PartReply;
@@ -132,6 +135,16 @@ pub fn save_table(n: u64, points: u64, table: &[u32], out: &mut [u8]) -> Written
 pub fn save_list(n: u64, list: &[u8], out: &mut [u8]) -> WrittenReply {
     unsafe {
         subgroups_save_list(n, list.as_ptr(), list.len(), out.as_mut_ptr(), out.len())
+    }
+}
+
+/// Loads a file of either kind.
+pub fn load(file: &[u8], table: &mut [u32], text: &mut [u8]) -> LoadReply {
+    unsafe {
+        subgroups_load(
+            file.as_ptr(), file.len(),
+            table.as_mut_ptr(), table.len(), text.as_mut_ptr(), text.len(),
+        )
     }
 }
 

@@ -15,7 +15,7 @@ mod tables;
 #[allow(unused_imports)] // the benchmark does not call all of it
 pub use {
     expressing::express,
-    files::{save_list, save_table},
+    files::{load, save_list, save_table},
     tables::{basis, check, equal, member, normal, shorter},
 };
 

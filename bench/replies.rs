@@ -58,6 +58,19 @@ pub struct WrittenReply {
     pub bytes: u64,
 }
 
+/// The answer to loading: a refusal and kind 0; a table, kind 1; or a list, kind 2, with its words and bytes.
+#[repr(C)]
+#[derive(Clone, Copy, Default, Debug, PartialEq, Eq)]
+pub struct LoadReply {
+    pub number: u64,
+    pub place: u64,
+    pub kind: u64,
+    pub n: u64,
+    pub points: u64,
+    pub words: u64,
+    pub bytes: u64,
+}
+
 /// Which of two lists is handed back (1 the first, 2 the second, 0 neither), and how many of its bytes.
 #[repr(C)]
 #[derive(Clone, Copy, Default, Debug, PartialEq, Eq)]

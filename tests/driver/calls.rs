@@ -2,7 +2,7 @@
 
 use crate::engine;
 use crate::lent::{self, Lent};
-use crate::replies::{CheckReply, ExpressReply, PartReply, WrittenReply, YesReply};
+use crate::replies::{CheckReply, ExpressReply, LoadReply, PartReply, WrittenReply, YesReply};
 use crate::{folded, Input, Line};
 
 const ABSENT: u32 = u32::MAX;
@@ -89,6 +89,16 @@ impl Line {
         self.reply(r.number, r.place, r == nothing, &[r.words.to_string(), r.bytes.to_string()]);
     }
 
+    fn loaded(&mut self, r: LoadReply) {
+        let nothing = LoadReply { number: r.number, place: r.place, ..LoadReply::default() };
+        let answer = match (r.kind, r.points, r.words, r.bytes) {
+            (1, points, 0, 0) => format!("table {} {points}", r.n),
+            (2, 0, words, bytes) => format!("list {} {words} {bytes}", r.n),
+            _ => format!("{r:?}"),
+        };
+        self.reply(r.number, r.place, r == nothing, &[answer]);
+    }
+
     fn handed(&mut self, r: PartReply) {
         self.item(r.which);
         self.item(r.bytes);
@@ -119,6 +129,20 @@ fn folded_back(line: &mut Line, t: &mut Table, out: usize) {
     line.kept(table.kept() && work.kept());
 }
 
+/// A file loaded, and saved again.
+fn saved_back(line: &mut Line, file: &[u8], table: usize, text: usize) {
+    let (mut table, mut text) = (lent::cells(table), lent::bytes(text));
+    let reply = engine::load(file, table.part(), text.part());
+    line.loaded(reply);
+    let mut out = lent::bytes(file.len());
+    line.written(match reply.kind {
+        1 => engine::save_table(reply.n, reply.points, table.part(), out.part()),
+        _ => engine::save_list(reply.n, &text.part()[..reply.bytes as usize], out.part()),
+    });
+    line.bytes(out.part());
+    line.kept(table.kept() && text.kept() && out.kept());
+}
+
 /// Runs the next case of mode 'calls' and gives its line.
 pub fn run(input: &mut Input) -> String {
     let mut line = Line::default();
@@ -132,6 +156,18 @@ pub fn run(input: &mut Input) -> String {
             line.written(engine::save_list(n, input.take(list), out.part()));
             line.bytes(out.part());
             line.kept(out.kept());
+        }
+        b'r' => {
+            let file = input.length();
+            let (mut table, mut text) = (lent::cells(input.length()), lent::bytes(input.length()));
+            line.loaded(engine::load(input.take(file), table.part(), text.part()));
+            line.cells(table.part());
+            line.bytes(text.part());
+            line.kept(table.kept() && text.kept());
+        }
+        b'g' => {
+            let (file, table, text) = (input.length(), input.length(), input.length());
+            saved_back(&mut line, input.take(file), table, text);
         }
         kind => run_table(kind, input, &mut line),
     }

@@ -10,7 +10,8 @@
 //!   n table, length of work (normal); x table, lengths of query, work and output, the query (express);
 //!   b table, lengths of work and output (basis); s table, length of output (save_table);
 //!   f table, length of output (the basis, folded); l n, two lengths, two lists (shorter);
-//!   w n, lengths of list and output, the list (save_list).
+//!   w n, lengths of list and output, the list (save_list);
+//!   r lengths of file, table and text, the file (load); g the same (load, and what it loaded saved).
 //! chain: n, points, length of output; the table is a chain with loops, made here.
 //! A line is the reply: 'refused NUMBER PLACE'; or the figures; or yes, no. Then the lent cells (stored: of a table
 //! of at most 64, and check numbers; chain: how many work cells, of one more than needed, are not 0), the lent

@@ -3,7 +3,7 @@
 from .basis import basis_words
 from .corpus import cell_damages, random_word, shape_damages, spoilt
 from .expressed import call_tidy, damaged_expressions, expression_calls, long_expression
-from .filed import list_calls
+from .filed import list_calls, load_calls
 from .files import number_bytes, table_file
 from .folding import ABSENT
 from .lists import product, some_list
@@ -107,6 +107,7 @@ def fresh_calls(chance, lists):
         table, words = table_of(n, text), words_of(text)
         yield from table_calls(chance, table, words)
         yield from list_calls(chance, n, text)
+        yield from load_calls(chance, table, text)
         if chance.random() < 0.1:
             yield long_expression(chance, table)
         if table.points * n <= 600:
@@ -127,6 +128,7 @@ def small_graph_calls(chance):
         table = table_of(n, text)
         yield from table_calls(chance, table, words_of(text)) if len(table.cells) <= MANY_CELLS else ()
         yield from list_calls(chance, n, text)
+        yield from load_calls(chance, table, text)
         for query in queries:
             yield call_member(table, query, len(query))
             yield call_express(table, query, len(query), len(query))
@@ -153,6 +155,7 @@ def stored_calls(chance):
         some = table_calls if len(table.cells) <= MANY_CELLS else long_calls
         yield from some(chance, table, words_of(text)[:20])
         yield from list_calls(chance, n, text)
+        yield from load_calls(chance, table, text)
 
 
 def shorter_calls(chance, pairs):

@@ -8,7 +8,7 @@ from collections import namedtuple
 
 from .basis import basis, express, normal
 from .calls import shorter
-from .files import save_list, save_table
+from .files import LoadedTable, load, save_list, save_table
 from .folding import ABSENT, breadth_table, fold_words_quickly
 from .stored import CELL_BEFORE
 from .tables import check, counts, equal, member
@@ -123,6 +123,32 @@ def call_save_list(n, text, out):
     answer, file = save_list(n, text, bytes([BYTE_BEFORE]) * out)
     data = b"w" + number(n, 8) + number(len(text), 4) + number(out, 4) + text
     return Call("save_list", data, answered(answer, 0, answer) + [shown_bytes(file)], out)
+
+
+def loaded_items(answer):
+    """What loading answers: a refusal, a table or a list."""
+    return answered(answer) or ["table" if isinstance(answer, LoadedTable) else "list", *answer]
+
+
+def call_told(file, text, items, written):
+    """A file loaded without a table, when the answer and the bytes written are known."""
+    data = b"r" + number(len(file), 4) + number(0, 4) + number(text, 4) + file
+    after = written + bytes([BYTE_BEFORE]) * (text - len(written))
+    return Call("load", data, items + [shown_bytes(after)], text)
+
+
+def call_load(file, table, text):
+    """A file loaded."""
+    answer, cells, after = load(file, [CELL_BEFORE] * table, bytes([BYTE_BEFORE]) * text)
+    data = b"r" + number(len(file), 4) + number(table, 4) + number(text, 4) + file
+    return Call("load", data, loaded_items(answer) + cells + [shown_bytes(after)], table + text)
+
+
+def call_back(file, table, text):
+    """A good file loaded and saved again: the same bytes."""
+    answer, *_ = load(file, [CELL_BEFORE] * table, bytes([BYTE_BEFORE]) * text)
+    data = b"g" + number(len(file), 4) + number(table, 4) + number(text, 4) + file
+    return Call("load and save", data, loaded_items(answer) + [0, len(file), shown_bytes(file)], len(file))
 
 
 def table_of(n, text):
