@@ -385,7 +385,7 @@ static WrittenReply save_list(uint64_t n, const char *words, size_t out_len)
 
 static void test_save_list(void)
 {
-    static const uint8_t file[10] = {2, 2, 3, 2, 0, 3, 0, 2, 1, 2};
+    static const uint8_t file[10] = {2, 2, 3, 2, 0, 3, 0, 2, 2, 1};
     lend();
     WrittenReply got = save_list(2, "aB\n\nbA\n", 10);
     check("save list: bytes", IS(got, 0, 0, 0, 10));
