@@ -1,0 +1,2 @@
+pub mod ListFiles
+pub mod Parts

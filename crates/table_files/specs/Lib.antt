@@ -1,0 +1,2 @@
+pub mod TableFiles
+pub mod Parts
