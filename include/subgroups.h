@@ -50,13 +50,6 @@ typedef struct {
     uint64_t yes; /* 1 for yes, 0 for no */
 } YesReply;
 
-/* The answer to expressing. */
-typedef struct {
-    uint64_t number, place;
-    uint64_t yes;   /* 1 for a member, 0 for another word */
-    uint64_t count; /* numbers written */
-} ExpressReply;
-
 /* The answer to checking a table. */
 typedef struct {
     uint64_t number, place;
@@ -75,6 +68,22 @@ typedef struct {
     uint64_t which; /* 1 the first, 2 the second, 0 neither */
     uint64_t bytes; /* of that list */
 } PartReply;
+
+/* The answer to expressing. */
+typedef struct {
+    uint64_t number, place;
+    uint64_t yes;   /* 1 for a member, 0 for none */
+    uint64_t count; /* numbers written */
+} ExpressReply;
+
+/* The answer to loading. */
+typedef struct {
+    uint64_t number, place;
+    uint64_t kind;         /* 1 a table, 2 a list, 0 refused */
+    uint64_t n;            /* of either */
+    uint64_t points;       /* of a table */
+    uint64_t words, bytes; /* of a list */
+} LoadReply;
 
 /* Folds a list into a table of (L + 1) * 2n cells with 8 * (L + 1) of work; behind the rows stands SUBGROUPS_ABSENT.
  * Refusals 1, 2, 3 or 4, 5, 6, 7: no cell changes. */
@@ -101,24 +110,27 @@ YesReply subgroups_member(uint64_t n, uint64_t points, const uint32_t *table, si
 YesReply subgroups_equal(uint64_t n, uint64_t points, const uint32_t *table, size_t table_len,
                          uint64_t other_n, uint64_t other_points, const uint32_t *other, size_t other_len);
 
-/* Says whether a table's subgroup is normal: every basis word, read from each point one letter away from the base,
- * leads back to that point. Work of 4 * points cells.
+/* Says whether a table's subgroup is normal; work of 4 * points cells.
  * Refusals 1, 6, 7, 8: no cell changes. */
 YesReply subgroups_normal(uint64_t n, uint64_t points, const uint32_t *table, size_t table_len,
                           uint32_t *work, size_t work_len);
-
-/* Expresses a query in the basis of a table's subgroup: k for basis word k, -k for its inverse, in reading order;
- * work of the query's length. Of a word that is no member no number is written.
- * Refusals 1, 2, 3 or 4, 6, 7, 8: no cell and no number changes. 9: the needed work cells are 0, and no number
- * changes. */
-ExpressReply subgroups_express(uint64_t n, uint64_t points, const uint32_t *table, size_t table_len,
-                               const uint8_t *query, size_t query_len,
-                               uint32_t *work, size_t work_len, int32_t *out, size_t out_len);
 
 /* Writes the basis of a table's subgroup as a list; work of 4 * points cells.
  * Refusals 1, 6, 7, 8: no cell and no byte changes. 9: the needed work cells are 0, and no byte changes. */
 WrittenReply subgroups_basis(uint64_t n, uint64_t points, const uint32_t *table, size_t table_len,
                              uint32_t *work, size_t work_len, uint8_t *out, size_t out_len);
+
+/* Expresses a query in the basis: k for basis word k, -k for its inverse; work of the query's length. A query that is
+ * no member writes nothing.
+ * Refusals 1, 2, 3 or 4, 6, 7, 8: nothing changes. 9: the needed work cells are 0, and the output does not change. */
+ExpressReply subgroups_express(uint64_t n, uint64_t points, const uint32_t *table, size_t table_len,
+                               const uint8_t *query, size_t query_len, uint32_t *work, size_t work_len,
+                               int32_t *out, size_t out_len);
+
+/* Says which of two lists has fewer letters, the first on a tie; a list that is refused never comes before one that
+ * is not. Nothing is refused: where both lists are, or n is, the reply is 0 and 0. */
+PartReply subgroups_shorter(uint64_t n, const uint8_t *first, size_t first_len,
+                            const uint8_t *second, size_t second_len);
 
 /* Saves a table as a file of kind 1.
  * Refusals 1, 6, 8, 9: no byte changes. */
@@ -129,10 +141,13 @@ WrittenReply subgroups_save_table(uint64_t n, uint64_t points, const uint32_t *t
  * Refusals 1, 2, 3 or 4, 5, 9: no byte changes. */
 WrittenReply subgroups_save_list(uint64_t n, const uint8_t *list, size_t list_len, uint8_t *out, size_t out_len);
 
-/* Says which of two lists has fewer letters, the first on a tie; a list that is refused never comes before one that
- * is not. Nothing is refused: where both lists are, or n is, the reply is 0 and 0. */
-PartReply subgroups_shorter(uint64_t n, const uint8_t *first, size_t first_len,
-                            const uint8_t *second, size_t second_len);
+/* Loads a file of either kind: a table into the table, a list into the text. Cells and bytes as many as the file has
+ * bytes are enough for every whole file; the other kind's buffer is not touched and may have length 0.
+ * Refusals in the order of the file: kind 10, 11; n 10, 1; points 10, 6 or number of words 10; the other numbers 10
+ * or 4; 12; then 8 of a table, or 2 and 9 of a list. 8: the table's points * 2n cells are SUBGROUPS_ABSENT. Others:
+ * nothing changes. */
+LoadReply subgroups_load(const uint8_t *file, size_t file_len,
+                         uint32_t *table, size_t table_len, uint8_t *text, size_t text_len);
 
 #ifdef __cplusplus
 }

@@ -402,6 +402,65 @@ static void test_save_list(void)
     save_refused("save list: output", save_list(2, "aB\n\nbA\n", 9), SUBGROUPS_OUTPUT, 10);
 }
 
+static LoadReply load(const uint8_t *file, size_t file_len, size_t table_len, size_t text_len)
+{
+    lend();
+    return subgroups_load(file, file_len, table, table_len, out, text_len);
+}
+
+static void load_refused(const char *what, LoadReply got, uint64_t number, uint64_t place)
+{
+    check(what, IS(got, number, place, 0, 0, 0, 0, 0));
+    check("load: a refusal changes nothing", untouched());
+}
+
+/* A file of these bytes, and its length. */
+#define BYTES_OF(...) (const uint8_t[]){__VA_ARGS__}, sizeof((const uint8_t[]){__VA_ARGS__})
+
+static void test_load(void)
+{
+    LoadReply got = load(BYTES_OF(1, 2, 2, 2, 2, 1, 1, 1, 1, 2, 2), 8, 0);
+    check("load: a table", IS(got, 0, 0, 1, 2, 2, 0, 0));
+    check("load: rows", memcmp(table, rows, sizeof rows) == 0 && all(table, 8, TABLE + AFTER, 777));
+    check("load: no text", cleared(0) && kept_from(0));
+    got = load(BYTES_OF(2, 2, 3, 2, 0, 3, 0, 2, 2, 1), 0, 7);
+    check("load: a list", IS(got, 0, 0, 2, 2, 0, 3, 7));
+    check("load: text", memcmp(out, "aB\n\nbA\n", 7) == 0 && kept_from(7));
+    check("load: no table", all(table, 0, TABLE + AFTER, 777));
+    load_refused("load: no kind", load(BYTES_OF(129), TABLE, BYTES), 10, 0);
+    load_refused("load: kind", load(BYTES_OF(3, 2, 0), TABLE, BYTES), 11, 0);
+    load_refused("load: no n", load(BYTES_OF(2), TABLE, BYTES), 10, 1);
+    load_refused("load: n", load(BYTES_OF(2, 27, 0), TABLE, BYTES), SUBGROUPS_ALPHABET, 0);
+    load_refused("load: no points", load(BYTES_OF(1, 2, 0), TABLE, BYTES), SUBGROUPS_TABLE, 0);
+    load_refused("load: short table", load(BYTES_OF(1, 2, 2, 2, 2, 1, 1, 1, 1, 2, 2), 7, BYTES), SUBGROUPS_TABLE, 0);
+    load_refused("load: cell", load(BYTES_OF(1, 1, 1, 0, 128, 0), TABLE, BYTES), 10, 4);
+    load_refused("load: letter", load(BYTES_OF(2, 2, 1, 2, 0, 4), TABLE, BYTES), SUBGROUPS_LETTER, 5);
+    load_refused("load: four billion words", load(BYTES_OF(2, 2, 255, 255, 255, 255, 15, 0), TABLE, BYTES), 10, 8);
+    load_refused("load: after the end", load(BYTES_OF(2, 2, 1, 0, 7, 7), TABLE, BYTES), 12, 4);
+    load_refused("load: text", load(BYTES_OF(2, 2, 3, 2, 0, 3, 0, 2, 2, 1), TABLE, 6), SUBGROUPS_OUTPUT, 7);
+    got = load(BYTES_OF(1, 2, 2, 2, 2, 1, 1, 1, 1, 2, 1), TABLE, BYTES);
+    check("load: canonical", IS(got, SUBGROUPS_CANONICAL, 6, 0, 0, 0, 0, 0));
+    check("load: a faulty table is absent", all(table, 0, 8, SUBGROUPS_ABSENT) && all(table, 8, TABLE + AFTER, 777));
+    check("load: its text kept", kept_from(0));
+}
+
+/* A list file of one word whose text has so many bytes. */
+static void test_long_load(void)
+{
+    static uint8_t file[7 + LONG], long_text[LONG];
+    memcpy(file, "\2\1\1\377\377\77", 6); /* 1,048,575 letters */
+    LoadReply got = subgroups_load(file, 6 + 1048575, table, 0, long_text, LONG);
+    check("load: the longest text", IS(got, 0, 0, 2, 1, 0, 1, 1048576));
+    check("load: its letters", long_text[0] == 'a' && long_text[1048575] == 10 && long_text[1048576] == 0);
+    memcpy(file, "\2\1\1\200\200\300", 6);
+    file[6] = 0;
+    got = subgroups_load(file, 6 + 1048576, table, 0, long_text, LONG);
+    check("load: a number too long", IS(got, 10, 3, 0, 0, 0, 0, 0));
+    memcpy(file, "\2\1\1\200\200\100", 6); /* 1,048,576 letters */
+    got = subgroups_load(file, 6 + 1048576, table, 0, long_text, LONG);
+    check("load: a text too long", IS(got, SUBGROUPS_BYTES, 0, 0, 0, 0, 0, 0));
+}
+
 static PartReply shorter(uint64_t n, const char *first, const char *second)
 {
     return subgroups_shorter(n, (const uint8_t *)first, strlen(first), (const uint8_t *)second, strlen(second));
@@ -438,6 +497,8 @@ int main(void)
     test_basis();
     test_save_table();
     test_save_list();
+    test_load();
+    test_long_load();
     test_shorter();
     printf("%d passed, %d failed\n", passed, failed);
     return failed != 0;

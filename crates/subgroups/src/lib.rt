@@ -1,14 +1,16 @@
 // The library that C and Rust programs link: each function answers a struct of plain numbers, laid out as in C.
 ghost use mathlib.Core.Path.{_≡_};
 ghost use Rattle.lists.specs.Shorter.{isGood};
-ghost use Rattle.subgroups.specs.Replies.{finiteOf, indexOf, madeReply, replyOf, countedReply, checkedReply, answerReply, equalityReply, judgedReply, expressedReply, basisReply, savedReply};
-ghost use Rattle.subgroups.specs.Outcomes.{FoldReplied, AskReplied, CheckReplied, MemberReplied, EqualReplied, NormalReplied, ExpressReplied, BasisReplied, SaveTableReplied, SaveListReplied, ShorterReplied};
+ghost use Rattle.subgroups.specs.Replies.{finiteOf, indexOf, madeReply, replyOf, countedReply, checkedReply, answerReply, equalityReply, judgedReply, expressedReply, basisReply, savedReply, foundReply, loadedReply};
+ghost use Rattle.subgroups.specs.Outcomes.{FoldReplied, AskReplied, CheckReplied, MemberReplied, EqualReplied, NormalReplied, ExpressReplied, BasisReplied, SaveTableReplied, SaveListReplied, LoadReplied, ShorterReplied};
 use bases::BasisAnswer;
 use equals::Equality;
 use expressions::Expressed;
 use folds::FoldFigures;
 use folds::Folded;
 use lists::Scanned;
+use loads::Found;
+use loads::Loaded;
 use members::Answer;
 use normals::Judged;
 use saves::Saved;
@@ -236,12 +238,7 @@ fn judged_reply(j: Judged) -> YesReply
 
 // Says whether the subgroup of a lent table is normal, or refuses.
 #[no_mangle]
-pub extern "C" fn subgroups_normal(
-    n: u64,
-    points: u64,
-    table: &[u32],
-    work: &mut [u32],
-) -> YesReply
+pub extern "C" fn subgroups_normal(n: u64, points: u64, table: &[u32], work: &mut [u32]) -> YesReply
     ensures outcome { λ r. ⌜ NormalReplied n points (now (table .entry)) (now (work .entry)) r (now (work .exit)) ⌝ }
 {
     judged_reply(normals::normal(Subgroup { n, points }, table, work))
@@ -430,6 +427,70 @@ pub extern "C" fn subgroups_save_list(n: u64, list: &[u8], out: &mut [u8]) -> Wr
     ensures outcome { λ r. ⌜ SaveListReplied n (now (list .entry)) (now (out .entry)) r (now (out .exit)) ⌝ }
 {
     saved_reply(saves::save_list(n, list, out))
+}
+
+// What loading answers: a refusal and kind 0; or a table, kind 1, with n and its points; or a list, kind 2, with n and how many words and bytes its text has.
+#[repr(C)]
+pub struct LoadReply {
+    pub number: u64,
+    pub place: u64,
+    pub kind: u64,
+    pub n: u64,
+    pub points: u64,
+    pub words: u64,
+    pub bytes: u64,
+}
+
+// What a file was found to hold, as a reply.
+fn found_reply(n: u64, points: u64, f: Found) -> LoadReply
+    ensures reply { λ r. ⌜ r ≡ foundReply n points f ⌝ }
+{
+    match f {
+        Found::Refused(r) => LoadReply {
+            number: r.number,
+            place: r.place,
+            kind: 0,
+            n: 0,
+            points: 0,
+            words: 0,
+            bytes: 0,
+        },
+        Found::Table => LoadReply {
+            number: 0,
+            place: 0,
+            kind: 1,
+            n,
+            points,
+            words: 0,
+            bytes: 0,
+        },
+        Found::List { words, bytes } => LoadReply {
+            number: 0,
+            place: 0,
+            kind: 2,
+            n,
+            points: 0,
+            words,
+            bytes,
+        },
+    }
+}
+
+// What loading says, as a reply.
+fn loaded_reply(l: Loaded) -> LoadReply
+    ensures reply { λ r. ⌜ r ≡ loadedReply l ⌝ }
+{
+    let s = l.subgroup;
+    let found = l.found;
+    found_reply(s.n, s.points, found)
+}
+
+// Loads a file of either kind into the lent table or the lent text, or refuses.
+#[no_mangle]
+pub extern "C" fn subgroups_load(file: &[u8], table: &mut [u32], text: &mut [u8]) -> LoadReply
+    ensures outcome { λ r. ⌜ LoadReplied (now (file .entry)) (now (table .entry)) (now (text .entry)) r (now (table .exit)) (now (text .exit)) ⌝ }
+{
+    loaded_reply(loads::load(file, table, text))
 }
 
 // Which of two lists is handed back (1 the first, 2 the second, 0 neither), and how many of its bytes.
