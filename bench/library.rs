@@ -1,7 +1,7 @@
 //! The proved library, called through its C interface.
 #![allow(dead_code)] // the benchmark does not call all of it
 
-use crate::replies::{CheckReply, FoldReply, PartReply, WrittenReply, YesReply};
+use crate::replies::{CheckReply, ExpressReply, FoldReply, LoadReply, PartReply, WrittenReply, YesReply};
 
 extern "C" {
     fn subgroups_fold(
@@ -21,6 +21,14 @@ extern "C" {
         n: u64, points: u64, table: *const u32, table_len: usize,
         other_n: u64, other_points: u64, other: *const u32, other_len: usize,
     ) -> YesReply;
+    fn subgroups_normal(
+        n: u64, points: u64, table: *const u32, table_len: usize, work: *mut u32, work_len: usize,
+    ) -> YesReply;
+    fn subgroups_express(
+        n: u64, points: u64, table: *const u32, table_len: usize,
+        query: *const u8, query_len: usize,
+        work: *mut u32, work_len: usize, out: *mut i32, out_len: usize,
+    ) -> ExpressReply;
     fn subgroups_basis(
         n: u64, points: u64, table: *const u32, table_len: usize,
         work: *mut u32, work_len: usize, out: *mut u8, out_len: usize,
@@ -28,6 +36,12 @@ extern "C" {
     fn subgroups_save_table(
         n: u64, points: u64, table: *const u32, table_len: usize, out: *mut u8, out_len: usize,
     ) -> WrittenReply;
+    fn subgroups_save_list(
+        n: u64, list: *const u8, list_len: usize, out: *mut u8, out_len: usize,
+    ) -> WrittenReply;
+    fn subgroups_load(
+        file: *const u8, file_len: usize, table: *mut u32, table_len: usize, text: *mut u8, text_len: usize,
+    ) -> LoadReply;
     fn subgroups_shorter(
         n: u64, first: *const u8, first_len: usize, second: *const u8, second_len: usize,
     ) -> PartReply;
@@ -80,6 +94,26 @@ pub fn equal(n: u64, points: u64, table: &[u32], other_n: u64, other_points: u64
     }
 }
 
+/// Says whether the subgroup of a lent table is normal.
+pub fn normal(n: u64, points: u64, table: &[u32], work: &mut [u32]) -> YesReply {
+    unsafe {
+        subgroups_normal(n, points, table.as_ptr(), table.len(), work.as_mut_ptr(), work.len())
+    }
+}
+
+/// Expresses one query in the basis of a lent table.
+pub fn express(
+    n: u64, points: u64, table: &[u32], query: &[u8], work: &mut [u32], out: &mut [i32],
+) -> ExpressReply {
+    unsafe {
+        subgroups_express(
+            n, points, table.as_ptr(), table.len(),
+            query.as_ptr(), query.len(),
+            work.as_mut_ptr(), work.len(), out.as_mut_ptr(), out.len(),
+        )
+    }
+}
+
 /// Writes the basis of a lent table.
 pub fn basis(n: u64, points: u64, table: &[u32], work: &mut [u32], out: &mut [u8]) -> WrittenReply {
     unsafe {
@@ -94,6 +128,23 @@ pub fn basis(n: u64, points: u64, table: &[u32], work: &mut [u32], out: &mut [u8
 pub fn save_table(n: u64, points: u64, table: &[u32], out: &mut [u8]) -> WrittenReply {
     unsafe {
         subgroups_save_table(n, points, table.as_ptr(), table.len(), out.as_mut_ptr(), out.len())
+    }
+}
+
+/// Saves a list.
+pub fn save_list(n: u64, list: &[u8], out: &mut [u8]) -> WrittenReply {
+    unsafe {
+        subgroups_save_list(n, list.as_ptr(), list.len(), out.as_mut_ptr(), out.len())
+    }
+}
+
+/// Loads a file of either kind.
+pub fn load(file: &[u8], table: &mut [u32], text: &mut [u8]) -> LoadReply {
+    unsafe {
+        subgroups_load(
+            file.as_ptr(), file.len(),
+            table.as_mut_ptr(), table.len(), text.as_mut_ptr(), text.len(),
+        )
     }
 }
 

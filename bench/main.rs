@@ -1,6 +1,7 @@
 //! Folds lists of many shapes by the library and by plain Rust, in one run on warm buffers, and prints a table.
-//! Both must leave the same figures and the same cells. Then calls on lent tables (tables.rs). An argument, 'folds'
-//! or 'tables', chooses one part. Built with --cfg plain it measures plain Rust alone.
+//! Both must leave the same figures and the same cells. Then calls on lent tables and lists (tables.rs). An argument,
+//! 'folds' or 'tables', chooses one part; after 'tables' a number sets the most points. Built with --cfg plain it
+//! measures plain Rust alone.
 
 use std::cell::RefCell;
 use std::time::{Duration, Instant};
@@ -103,7 +104,7 @@ fn main() {
         folds();
     }
     if chosen("tables") {
-        tables::print();
+        tables::print(std::env::args().nth(2).map_or(usize::MAX, |most| most.parse().expect("a number of points")));
     }
 }
 

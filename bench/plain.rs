@@ -6,10 +6,18 @@
 
 use crate::replies::{FoldReply, YesReply};
 
+#[path = "plain_express.rs"]
+mod expressing;
+#[path = "plain_files.rs"]
+mod files;
 #[path = "plain_tables.rs"]
 mod tables;
 #[allow(unused_imports)] // the benchmark does not call all of it
-pub use tables::{basis, check, equal, member, save_table, shorter};
+pub use {
+    expressing::express,
+    files::{load, save_list, save_table},
+    tables::{basis, check, equal, member, normal, shorter},
+};
 
 const ABSENT: u32 = u32::MAX;
 const LINE_END: u8 = 10;

@@ -1,4 +1,4 @@
-//! Lent tables in plain Rust: check, member, equal, basis, saving, and the shorter of two lists.
+//! Lent tables in plain Rust: check, member, equal, basis, normal, and the shorter of two lists.
 #![allow(dead_code)] // the benchmark does not call all of it
 
 use super::{cause_1, cause_2, cause_3_or_4, cause_5, leads_back, Refused, ABSENT};
@@ -8,20 +8,20 @@ const MOST_POINTS: u64 = 1_048_577;
 const LINE_END: u8 = 10;
 
 /// A lent table that has its cells.
-struct Lent<'a> {
-    points: usize,
-    width: usize,
-    cells: &'a [u32],
+pub struct Lent<'a> {
+    pub points: usize,
+    pub width: usize,
+    pub cells: &'a [u32],
 }
 
 /// What a canonical table counts: its edges, and whether no cell is absent.
-struct Counted {
+pub struct Counted {
     edges: u64,
     full: bool,
 }
 
 /// 6: V is 0 or too great, or the table is too short.
-fn cause_6(n: u64, points: u64, table: &[u32]) -> Result<Lent<'_>, Refused> {
+pub fn cause_6(n: u64, points: u64, table: &[u32]) -> Result<Lent<'_>, Refused> {
     if points == 0 || points > MOST_POINTS || (table.len() as u64) < points * 2 * n {
         return Err(Refused(6, 0));
     }
@@ -30,17 +30,17 @@ fn cause_6(n: u64, points: u64, table: &[u32]) -> Result<Lent<'_>, Refused> {
 }
 
 /// 7, 9: fewer items than are needed.
-fn short(number: u64, length: usize, needed: u64) -> Result<(), Refused> {
+pub fn short(number: u64, length: usize, needed: u64) -> Result<(), Refused> {
     if (length as u64) < needed { Err(Refused(number, needed)) } else { Ok(()) }
 }
 
 impl Lent<'_> {
-    fn row(&self, v: usize) -> &[u32] {
+    pub fn row(&self, v: usize) -> &[u32] {
         &self.cells[v * self.width..(v + 1) * self.width]
     }
 
     /// 8: the lowest cell of any broken rule; else the counts.
-    fn walk(&self) -> Result<Counted, Refused> {
+    pub fn walk(&self) -> Result<Counted, Refused> {
         let (mut met, mut edges, mut full) = (0, 0, true);
         for v in 0..self.points {
             let row = self.row(v);
@@ -97,7 +97,7 @@ impl Lent<'_> {
 }
 
 /// The byte of a letter number.
-fn byte(y: usize) -> u8 {
+pub fn byte(y: usize) -> u8 {
     if y % 2 == 0 { b'a' + (y / 2) as u8 } else { b'A' + (y / 2) as u8 }
 }
 
@@ -151,7 +151,7 @@ fn said(answer: Result<bool, Refused>) -> YesReply {
 }
 
 /// A refusal, or how many words and bytes.
-fn wrote(answer: Result<(u64, u64), Refused>) -> WrittenReply {
+pub fn wrote(answer: Result<(u64, u64), Refused>) -> WrittenReply {
     match answer {
         Err(Refused(number, place)) => WrittenReply { number, place, ..WrittenReply::default() },
         Ok((words, bytes)) => WrittenReply { number: 0, place: 0, words, bytes },
@@ -214,42 +214,49 @@ pub fn basis(n: u64, points: u64, table: &[u32], work: &mut [u32], out: &mut [u8
     wrote(answer())
 }
 
-/// The number of a cell in a file.
-fn number_of(x: u32) -> u64 {
-    if x == ABSENT { 0 } else { x as u64 + 1 }
+/// Carries the cell of letter y at v over to the image of v, which `image` holds for every point met; says whether
+/// it can be carried.
+fn carry(lent: &Lent, image: &mut [u32], v: usize, y: usize, met: &mut usize) -> bool {
+    let x = lent.row(v)[y];
+    if x == ABSENT {
+        return true;
+    }
+    let to = lent.row(image[v] as usize)[y];
+    if to == ABSENT {
+        return false;
+    }
+    let x = x as usize;
+    if x > *met {
+        *met = x;
+        image[x] = to;
+    }
+    image[x] == to
 }
 
-/// The bytes that a number takes.
-fn number_size(number: u64) -> u64 {
-    1 + (number >= 1 << 7) as u64 + (number >= 1 << 14) as u64 + (number >= 1 << 21) as u64 + (number >= 1 << 28) as u64
+/// Says whether every basis word leads from p back to p: all cells can be carried over from the base to p.
+fn all_lead_back(lent: &Lent, image: &mut [u32], p: u32) -> bool {
+    image[0] = p;
+    let mut met = 0;
+    (0..lent.points).all(|v| (0..lent.width).all(|y| carry(lent, image, v, y, &mut met)))
 }
 
-/// Saves a lent table.
-pub fn save_table(n: u64, points: u64, table: &[u32], out: &mut [u8]) -> WrittenReply {
+/// Says whether the subgroup of a lent table is normal.
+pub fn normal(n: u64, points: u64, table: &[u32], work: &mut [u32]) -> YesReply {
     let mut answer = || {
         cause_1(n)?;
         let lent = cause_6(n, points, table)?;
+        short(7, work.len(), 4 * points)?;
         lent.walk()?;
-        let numbers = || [1, n, points].into_iter().chain(lent.cells.iter().map(|&x| number_of(x)));
-        let bytes = numbers().map(number_size).sum();
-        short(9, out.len(), bytes)?;
-        let mut at = 0;
-        for mut number in numbers() {
-            while number >= 128 {
-                out[at] = number as u8 | 128;
-                number >>= 7;
-                at += 1;
-            }
-            out[at] = number as u8;
-            at += 1;
-        }
-        Ok((0, bytes))
+        let neighbours = lent.row(0).iter().filter(|&&p| p != ABSENT && p != 0);
+        let yes = neighbours.into_iter().all(|&p| all_lead_back(&lent, work, p));
+        work[..4 * lent.points].fill(0);
+        Ok(yes)
     };
-    wrote(answer())
+    said(answer())
 }
 
 /// The letters of a list that is not refused.
-fn letters_of(n: u64, list: &[u8]) -> Result<usize, Refused> {
+pub fn letters_of(n: u64, list: &[u8]) -> Result<usize, Refused> {
     cause_1(n)?;
     cause_2(list)?;
     let letters = cause_3_or_4(n, list, true)?;

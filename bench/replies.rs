@@ -26,6 +26,16 @@ pub struct YesReply {
     pub yes: u64,
 }
 
+/// The answer to expressing: a refusal, or 1 for a member and how many numbers were written, or 0.
+#[repr(C)]
+#[derive(Clone, Copy, Default, Debug, PartialEq, Eq)]
+pub struct ExpressReply {
+    pub number: u64,
+    pub place: u64,
+    pub yes: u64,
+    pub count: u64,
+}
+
 /// The answer to checking a table: a refusal, or its counts.
 #[repr(C)]
 #[derive(Clone, Copy, Default, Debug, PartialEq, Eq)]
@@ -44,6 +54,19 @@ pub struct CheckReply {
 pub struct WrittenReply {
     pub number: u64,
     pub place: u64,
+    pub words: u64,
+    pub bytes: u64,
+}
+
+/// The answer to loading: a refusal and kind 0; a table, kind 1; or a list, kind 2, with its words and bytes.
+#[repr(C)]
+#[derive(Clone, Copy, Default, Debug, PartialEq, Eq)]
+pub struct LoadReply {
+    pub number: u64,
+    pub place: u64,
+    pub kind: u64,
+    pub n: u64,
+    pub points: u64,
     pub words: u64,
     pub bytes: u64,
 }

@@ -1,5 +1,8 @@
 //! Lists to measure on: each shape makes a list of about so many letters over n generators.
 
+use std::collections::HashMap;
+use std::hash::Hash;
+
 /// The cell of a letter that leads nowhere.
 pub const ABSENT: u32 = u32::MAX;
 
@@ -62,7 +65,7 @@ fn letter(y: usize) -> u8 {
     b'a' + (y / 2) as u8 - if y % 2 == 1 { 32 } else { 0 }
 }
 
-fn inverse(word: &[u8]) -> Vec<u8> {
+pub fn inverse(word: &[u8]) -> Vec<u8> {
     word.iter().rev().map(|y| y ^ 32).collect()
 }
 
@@ -178,23 +181,38 @@ fn moves_of(n: usize, points: usize) -> Vec<Vec<usize>> {
     moves
 }
 
-/// The table of a random action: no cell is absent. Points that the base does not reach are left out.
-pub fn action(n: usize, points: usize) -> Vec<u32> {
-    let moves = moves_of(n, points);
-    let (mut number, mut order) = (vec![ABSENT; points], vec![0]);
-    number[0] = 0;
+/// The table of points and the way a letter moves them, numbered by breadth.
+fn numbered<P: Copy + Eq + Hash>(n: usize, base: P, moved: impl Fn(P, usize) -> P) -> Vec<u32> {
+    let (mut number, mut order, mut cells) = (HashMap::from([(base, 0)]), vec![base], Vec::new());
     let mut at = 0;
     while at < order.len() {
-        for to in &moves {
-            let q = to[order[at]];
-            if number[q] == ABSENT {
-                number[q] = order.len() as u32;
-                order.push(q);
-            }
+        for y in 0..2 * n {
+            let to = moved(order[at], y);
+            cells.push(*number.entry(to).or_insert_with(|| {
+                order.push(to);
+                order.len() as u32 - 1
+            }));
         }
         at += 1;
     }
-    order.iter().flat_map(|&p| moves.iter().map(move |to| to[p])).map(|q| number[q]).collect()
+    cells
+}
+
+/// The table of a random action: no cell is absent. Points that the base does not reach are left out.
+pub fn action(n: usize, points: usize) -> Vec<u32> {
+    let moves = moves_of(n, points);
+    numbered(n, 0, |p, y| moves[y][p])
+}
+
+/// The table of a normal subgroup of so many points or more: a letter adds a multiple of one row of a matrix of two
+/// rows to the other, modulo a prime; words that leave the matrix 1 are the members.
+pub fn matrices(n: usize, points: usize) -> Vec<u32> {
+    let is_prime = |p: &usize| (2..*p).all(|q| p % q != 0);
+    let p = (2..).filter(is_prime).find(|p| p * (p * p - 1) >= points).unwrap();
+    numbered(n, [1, 0, 0, 1], |[a, b, c, d], y| {
+        let k = if y % 2 == 0 { y / 4 + 1 } else { p * p - y / 4 - 1 };
+        if y / 2 % 2 == 0 { [a, (b + k * a) % p, c, (d + k * c) % p] } else { [(a + k * b) % p, b, (c + k * d) % p, d] }
+    })
 }
 
 /// One reduced word of so many letters.

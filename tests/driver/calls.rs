@@ -1,8 +1,8 @@
-//! Calls on lent tables, one a case, and on two lists: modes 'calls' and 'chain' (see main.rs).
+//! Calls on lent tables, one a case, and on lists: modes 'calls' and 'chain' (see main.rs).
 
 use crate::engine;
 use crate::lent::{self, Lent};
-use crate::replies::{CheckReply, PartReply, WrittenReply, YesReply};
+use crate::replies::{CheckReply, ExpressReply, LoadReply, PartReply, WrittenReply, YesReply};
 use crate::{folded, Input, Line};
 
 const ABSENT: u32 = u32::MAX;
@@ -75,9 +75,28 @@ impl Line {
         self.reply(r.number, r.place, r.yes == 0, &[answer]);
     }
 
+    fn expressed(&mut self, r: ExpressReply) {
+        let answer = match (r.yes, r.count) {
+            (0, 0) => "no".to_string(),
+            (1, count) => format!("yes {count}"),
+            (yes, count) => format!("{yes}:{count}"),
+        };
+        self.reply(r.number, r.place, (r.yes, r.count) == (0, 0), &[answer]);
+    }
+
     fn written(&mut self, r: WrittenReply) {
         let nothing = WrittenReply { number: r.number, place: r.place, ..WrittenReply::default() };
         self.reply(r.number, r.place, r == nothing, &[r.words.to_string(), r.bytes.to_string()]);
+    }
+
+    fn loaded(&mut self, r: LoadReply) {
+        let nothing = LoadReply { number: r.number, place: r.place, ..LoadReply::default() };
+        let answer = match (r.kind, r.points, r.words, r.bytes) {
+            (1, points, 0, 0) => format!("table {} {points}", r.n),
+            (2, 0, words, bytes) => format!("list {} {words} {bytes}", r.n),
+            _ => format!("{r:?}"),
+        };
+        self.reply(r.number, r.place, r == nothing, &[answer]);
     }
 
     fn handed(&mut self, r: PartReply) {
@@ -110,15 +129,53 @@ fn folded_back(line: &mut Line, t: &mut Table, out: usize) {
     line.kept(table.kept() && work.kept());
 }
 
+/// A file loaded, and saved again.
+fn saved_back(line: &mut Line, file: &[u8], table: usize, text: usize) {
+    let (mut table, mut text) = (lent::cells(table), lent::bytes(text));
+    let reply = engine::load(file, table.part(), text.part());
+    line.loaded(reply);
+    let mut out = lent::bytes(file.len());
+    line.written(match reply.kind {
+        1 => engine::save_table(reply.n, reply.points, table.part(), out.part()),
+        _ => engine::save_list(reply.n, &text.part()[..reply.bytes as usize], out.part()),
+    });
+    line.bytes(out.part());
+    line.kept(table.kept() && text.kept() && out.kept());
+}
+
 /// Runs the next case of mode 'calls' and gives its line.
 pub fn run(input: &mut Input) -> String {
     let mut line = Line::default();
-    let kind = input.take(1)[0];
-    if kind == b'l' {
-        let (n, first, second) = (input.number(8), input.length(), input.length());
-        line.handed(engine::shorter(n, &input.take(first).to_vec(), &input.take(second).to_vec()));
-        return line.text;
+    match input.take(1)[0] {
+        b'l' => {
+            let (n, first, second) = (input.number(8), input.length(), input.length());
+            line.handed(engine::shorter(n, &input.take(first).to_vec(), &input.take(second).to_vec()));
+        }
+        b'w' => {
+            let (n, list, mut out) = (input.number(8), input.length(), lent::bytes(input.length()));
+            line.written(engine::save_list(n, &input.take(list).to_vec(), out.part()));
+            line.bytes(out.part());
+            line.kept(out.kept());
+        }
+        b'r' => {
+            let file = input.length();
+            let (mut table, mut text) = (lent::cells(input.length()), lent::bytes(input.length()));
+            line.loaded(engine::load(&input.take(file).to_vec(), table.part(), text.part()));
+            line.cells(table.part());
+            line.bytes(text.part());
+            line.kept(table.kept() && text.kept());
+        }
+        b'g' => {
+            let (file, table, text) = (input.length(), input.length(), input.length());
+            saved_back(&mut line, &input.take(file).to_vec(), table, text);
+        }
+        kind => run_table(kind, input, &mut line),
     }
+    line.text
+}
+
+/// Runs a call on a table.
+fn run_table(kind: u8, input: &mut Input, line: &mut Line) {
     let mut t = Table::read(input);
     match kind {
         b'c' => line.checked(engine::check(t.n, t.points, t.cells.part())),
@@ -135,6 +192,20 @@ pub fn run(input: &mut Input) -> String {
             line.said(engine::equal(t.n, t.points, first, other.n, other.points, second));
             line.kept(other.kept());
         }
+        b'n' => {
+            let mut work = lent::cells(input.length());
+            line.said(engine::normal(t.n, t.points, t.cells.part(), work.part()));
+            line.cells(work.part());
+            line.kept(work.kept());
+        }
+        b'x' => {
+            let (query, mut work) = (input.length(), lent::cells(input.length()));
+            let (mut out, query) = (lent::numbers(input.length()), &*input.take(query).to_vec());
+            line.expressed(engine::express(t.n, t.points, t.cells.part(), query, work.part(), out.part()));
+            line.cells(work.part());
+            out.part().iter().for_each(|z| line.item(z));
+            line.kept(work.kept() && out.kept());
+        }
         b'b' => {
             let (mut work, mut out) = (lent::cells(input.length()), lent::bytes(input.length()));
             line.written(engine::basis(t.n, t.points, t.cells.part(), work.part(), out.part()));
@@ -148,11 +219,10 @@ pub fn run(input: &mut Input) -> String {
             line.bytes(out.part());
             line.kept(out.kept());
         }
-        b'f' => folded_back(&mut line, &mut t, input.length()),
+        b'f' => folded_back(line, &mut t, input.length()),
         other => panic!("no call {other}"),
     }
     line.kept(t.kept());
-    line.text
 }
 
 /// Runs the next case of mode 'chain': checks, saves and writes the basis of a long chain into few bytes.

@@ -3,6 +3,8 @@
 
 const CELL_BEFORE: u32 = 777;
 const CELL_GUARD: u32 = 0x5EED_5EED;
+const NUMBER_BEFORE: i32 = 777;
+const NUMBER_GUARD: i32 = -0x5EED_5EED;
 const BYTE_BEFORE: u8 = 77;
 const BYTE_GUARD: u8 = 0xA5;
 const GUARDS: usize = if cfg!(exact) { 0 } else { 16 };
@@ -34,6 +36,11 @@ impl<T: Copy + PartialEq> Lent<T> {
 /// Cells as they are before a call.
 pub fn cells(length: usize) -> Lent<u32> {
     Lent::new(length, CELL_BEFORE, CELL_GUARD)
+}
+
+/// Signed numbers as they are before a call.
+pub fn numbers(length: usize) -> Lent<i32> {
+    Lent::new(length, NUMBER_BEFORE, NUMBER_GUARD)
 }
 
 /// Bytes as they are before a call.

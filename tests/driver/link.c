@@ -10,10 +10,11 @@ static const char list[] = "aaB\nbAba\nabA\naaaaaa\n"; /* 16 letters, n = 2 */
 static const char basis_text[] = "b\naa\nabA\n";
 static const uint32_t rows[8] = {1, 1, 0, 0, 0, 0, 1, 1}; /* of the list */
 
-enum { TABLE = 17 * 4, WORK = 17 * 8, BYTES = 64, AFTER = 3, LONG = 1048577 };
+enum { TABLE = 17 * 4, WORK = 17 * 8, BYTES = 64, NUMBERS = 16, AFTER = 3, LONG = 1048577 };
 
 static uint32_t table[TABLE + AFTER], work[WORK + AFTER];
 static uint8_t out[BYTES + AFTER];
+static int32_t numbers[NUMBERS + AFTER];
 static char text[LONG + 1];
 static int passed, failed;
 
@@ -31,6 +32,7 @@ static void lend(void)
 {
     for (size_t i = 0; i < TABLE + AFTER; i++) table[i] = 777;
     for (size_t i = 0; i < WORK + AFTER; i++) work[i] = 777;
+    for (size_t i = 0; i < NUMBERS + AFTER; i++) numbers[i] = -777;
     memset(out, 77, sizeof out);
 }
 
@@ -236,6 +238,87 @@ static void test_equal(void)
     check("equal: table kept", table_kept(5, 1));
 }
 
+static void normal_refused(const char *what, YesReply got, uint64_t number, uint64_t place)
+{
+    check(what, IS(got, number, place, 0));
+    check("normal: a refusal changes nothing", cleared(0));
+}
+
+static void test_normal(void)
+{
+    lend_rows(0, 1);
+    YesReply got = subgroups_normal(2, 2, table, 8, work, 8);
+    check("normal: yes", IS(got, 0, 0, 1));
+    check("normal: work", cleared(8));
+    lend_rows(0, 1);
+    got = subgroups_normal(2, 2, table, TABLE, work, WORK);
+    check("normal: with room", IS(got, 0, 0, 1) && cleared(8));
+    uint32_t a = SUBGROUPS_ABSENT, other[8] = {1, a, a, a, a, 0, 1, 1}; /* of abA */
+    lend();
+    got = subgroups_normal(2, 2, other, 8, work, 8);
+    check("normal: no", IS(got, 0, 0, 0));
+    check("normal: work of another", cleared(8));
+    lend_rows(0, 1);
+    normal_refused("normal: n", subgroups_normal(27, 2, table, 8, work, 8), SUBGROUPS_ALPHABET, 0);
+    normal_refused("normal: table", subgroups_normal(2, 2, table, 7, work, 0), SUBGROUPS_TABLE, 0);
+    normal_refused("normal: work", subgroups_normal(2, 2, table, 8, work, 7), SUBGROUPS_WORK, 8);
+    check("normal: table kept", table_kept(0, 1));
+    lend_rows(7, 0);
+    normal_refused("normal: canonical", subgroups_normal(2, 2, table, 8, work, 8), SUBGROUPS_CANONICAL, 6);
+    check("normal: faulty table kept", table_kept(7, 0));
+}
+
+/* Whether the first numbers are these and all others unchanged. */
+static int written(const int32_t *want, size_t count)
+{
+    for (size_t i = 0; i < NUMBERS + AFTER; i++)
+        if (numbers[i] != (i < count ? want[i] : -777)) return 0;
+    return 1;
+}
+
+static ExpressReply express(uint64_t n, uint64_t points, size_t table_len, const char *query, size_t work_len,
+                            size_t out_len)
+{
+    return subgroups_express(n, points, table, table_len, (const uint8_t *)query, strlen(query), work, work_len,
+                             numbers, out_len);
+}
+
+static void express_refused(const char *what, ExpressReply got, uint64_t number, uint64_t place, size_t cells)
+{
+    check(what, IS(got, number, place, 0, 0));
+    check("express: what a refusal leaves", cleared(cells) && written(NULL, 0));
+}
+
+static void test_express(void)
+{
+    static const int32_t baba[4] = {1, -2, 3, 2};
+    lend_rows(0, 1);
+    ExpressReply got = express(2, 2, 8, "bAba", 4, 4);
+    check("express: bAba", IS(got, 0, 0, 1, 4));
+    check("express: numbers", written(baba, 4) && cleared(4));
+    lend_rows(0, 1);
+    got = express(2, 2, TABLE, "bAbBba", WORK, NUMBERS);
+    check("express: unreduced", IS(got, 0, 0, 1, 4) && written(baba, 4) && cleared(6));
+    lend_rows(0, 1);
+    got = express(2, 2, 8, "a", 1, 0);
+    check("express: a", IS(got, 0, 0, 0, 0) && written(NULL, 0) && cleared(1));
+    lend_rows(0, 1);
+    got = express(2, 2, 8, "aA", 2, 0);
+    check("express: aA", IS(got, 0, 0, 1, 0) && written(NULL, 0) && cleared(2));
+    lend_rows(0, 1);
+    express_refused("express: n", express(0, 2, 8, "a", 1, 4), SUBGROUPS_ALPHABET, 0, 0);
+    express_refused("express: bytes", express(2, 2, 8, text, 1, 4), SUBGROUPS_BYTES, 0, 0);
+    express_refused("express: byte", express(2, 2, 8, "a\n", 2, 4), SUBGROUPS_BYTE, 1, 0);
+    express_refused("express: letter", express(2, 2, 8, "aC", 2, 4), SUBGROUPS_LETTER, 1, 0);
+    express_refused("express: table", express(2, 2, 7, "a", 0, 4), SUBGROUPS_TABLE, 0, 0);
+    express_refused("express: work", express(2, 2, 8, "bAba", 3, 4), SUBGROUPS_WORK, 4, 0);
+    express_refused("express: output", express(2, 2, 8, "bAba", 4, 3), SUBGROUPS_OUTPUT, 4, 4);
+    check("express: table kept", table_kept(0, 1));
+    lend_rows(7, 0);
+    express_refused("express: canonical", express(2, 2, 8, "bAba", 4, 0), SUBGROUPS_CANONICAL, 6, 0);
+    check("express: faulty table kept", table_kept(7, 0));
+}
+
 static WrittenReply basis(uint64_t n, uint64_t points, size_t table_len, size_t work_len, size_t out_len)
 {
     return subgroups_basis(n, points, table, table_len, work, work_len, out, out_len);
@@ -300,6 +383,89 @@ static void test_save_table(void)
     check("save: faulty table kept", table_kept(7, 0));
 }
 
+static WrittenReply save_list(uint64_t n, const char *words, size_t out_len)
+{
+    return subgroups_save_list(n, (const uint8_t *)words, strlen(words), out, out_len);
+}
+
+static void test_save_list(void)
+{
+    static const uint8_t file[10] = {2, 2, 3, 2, 0, 3, 0, 2, 2, 1};
+    lend();
+    WrittenReply got = save_list(2, "aB\n\nbA\n", 10);
+    check("save list: bytes", IS(got, 0, 0, 0, 10));
+    check("save list: file", memcmp(out, file, sizeof file) == 0 && kept_from(10));
+    lend();
+    got = save_list(2, "", BYTES);
+    check("save list: no words", IS(got, 0, 0, 0, 3) && memcmp(out, "\2\2\0", 3) == 0 && kept_from(3));
+    lend();
+    save_refused("save list: n", save_list(0, "a\n", BYTES), SUBGROUPS_ALPHABET, 0);
+    save_refused("save list: bytes", save_list(2, text, BYTES), SUBGROUPS_BYTES, 0);
+    save_refused("save list: byte", save_list(2, "ab\na b\n", BYTES), SUBGROUPS_BYTE, 4);
+    save_refused("save list: letter", save_list(2, "ab\nac\n", BYTES), SUBGROUPS_LETTER, 4);
+    save_refused("save list: line end", save_list(2, "ab\nab", BYTES), SUBGROUPS_UNENDED, 5);
+    save_refused("save list: output", save_list(2, "aB\n\nbA\n", 9), SUBGROUPS_OUTPUT, 10);
+}
+
+static LoadReply load(const uint8_t *file, size_t file_len, size_t table_len, size_t text_len)
+{
+    lend();
+    return subgroups_load(file, file_len, table, table_len, out, text_len);
+}
+
+static void load_refused(const char *what, LoadReply got, uint64_t number, uint64_t place)
+{
+    check(what, IS(got, number, place, 0, 0, 0, 0, 0));
+    check("load: a refusal changes nothing", untouched());
+}
+
+/* A file of these bytes, and its length. */
+#define BYTES_OF(...) (const uint8_t[]){__VA_ARGS__}, sizeof((const uint8_t[]){__VA_ARGS__})
+
+static void test_load(void)
+{
+    LoadReply got = load(BYTES_OF(1, 2, 2, 2, 2, 1, 1, 1, 1, 2, 2), 8, 0);
+    check("load: a table", IS(got, 0, 0, 1, 2, 2, 0, 0));
+    check("load: rows", memcmp(table, rows, sizeof rows) == 0 && all(table, 8, TABLE + AFTER, 777));
+    check("load: no text", cleared(0) && kept_from(0));
+    got = load(BYTES_OF(2, 2, 3, 2, 0, 3, 0, 2, 2, 1), 0, 7);
+    check("load: a list", IS(got, 0, 0, 2, 2, 0, 3, 7));
+    check("load: text", memcmp(out, "aB\n\nbA\n", 7) == 0 && kept_from(7));
+    check("load: no table", all(table, 0, TABLE + AFTER, 777));
+    load_refused("load: no kind", load(BYTES_OF(129), TABLE, BYTES), 10, 0);
+    load_refused("load: kind", load(BYTES_OF(3, 2, 0), TABLE, BYTES), 11, 0);
+    load_refused("load: no n", load(BYTES_OF(2), TABLE, BYTES), 10, 1);
+    load_refused("load: n", load(BYTES_OF(2, 27, 0), TABLE, BYTES), SUBGROUPS_ALPHABET, 0);
+    load_refused("load: no points", load(BYTES_OF(1, 2, 0), TABLE, BYTES), SUBGROUPS_TABLE, 0);
+    load_refused("load: short table", load(BYTES_OF(1, 2, 2, 2, 2, 1, 1, 1, 1, 2, 2), 7, BYTES), SUBGROUPS_TABLE, 0);
+    load_refused("load: cell", load(BYTES_OF(1, 1, 1, 0, 128, 0), TABLE, BYTES), 10, 4);
+    load_refused("load: letter", load(BYTES_OF(2, 2, 1, 2, 0, 4), TABLE, BYTES), SUBGROUPS_LETTER, 5);
+    load_refused("load: four billion words", load(BYTES_OF(2, 2, 255, 255, 255, 255, 15, 0), TABLE, BYTES), 10, 8);
+    load_refused("load: after the end", load(BYTES_OF(2, 2, 1, 0, 7, 7), TABLE, BYTES), 12, 4);
+    load_refused("load: text", load(BYTES_OF(2, 2, 3, 2, 0, 3, 0, 2, 2, 1), TABLE, 6), SUBGROUPS_OUTPUT, 7);
+    got = load(BYTES_OF(1, 2, 2, 2, 2, 1, 1, 1, 1, 2, 1), TABLE, BYTES);
+    check("load: canonical", IS(got, SUBGROUPS_CANONICAL, 6, 0, 0, 0, 0, 0));
+    check("load: a faulty table is absent", all(table, 0, 8, SUBGROUPS_ABSENT) && all(table, 8, TABLE + AFTER, 777));
+    check("load: its text kept", kept_from(0));
+}
+
+/* A list file of one word whose text has so many bytes. */
+static void test_long_load(void)
+{
+    static uint8_t file[7 + LONG], long_text[LONG];
+    memcpy(file, "\2\1\1\377\377\77", 6); /* 1,048,575 letters */
+    LoadReply got = subgroups_load(file, 6 + 1048575, table, 0, long_text, LONG);
+    check("load: the longest text", IS(got, 0, 0, 2, 1, 0, 1, 1048576));
+    check("load: its letters", long_text[0] == 'a' && long_text[1048575] == 10 && long_text[1048576] == 0);
+    memcpy(file, "\2\1\1\200\200\300", 6);
+    file[6] = 0;
+    got = subgroups_load(file, 6 + 1048576, table, 0, long_text, LONG);
+    check("load: a number too long", IS(got, 10, 3, 0, 0, 0, 0, 0));
+    memcpy(file, "\2\1\1\200\200\100", 6); /* 1,048,576 letters */
+    got = subgroups_load(file, 6 + 1048576, table, 0, long_text, LONG);
+    check("load: a text too long", IS(got, SUBGROUPS_BYTES, 0, 0, 0, 0, 0, 0));
+}
+
 static PartReply shorter(uint64_t n, const char *first, const char *second)
 {
     return subgroups_shorter(n, (const uint8_t *)first, strlen(first), (const uint8_t *)second, strlen(second));
@@ -331,8 +497,13 @@ int main(void)
     test_check();
     test_member();
     test_equal();
+    test_normal();
+    test_express();
     test_basis();
     test_save_table();
+    test_save_list();
+    test_load();
+    test_long_load();
     test_shorter();
     printf("%d passed, %d failed\n", passed, failed);
     return failed != 0;

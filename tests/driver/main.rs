@@ -3,12 +3,15 @@
 //! driver stored | folds | asks | calls | chain   reads cases from standard input and prints a line for each.
 //!
 //! A case is little-endian numbers and then bytes; lengths have 4 bytes, n and points 8. Before the call lent cells
-//! hold 777 and lent bytes 77.
+//! and signed numbers hold 777 and lent bytes 77.
 //! stored, folds, asks: n, the lengths of list, table and work, for asks also that of the query; the list; the query.
 //! calls: a letter and what the call takes. A table is n, points, a length and its cells, 4 bytes each.
 //!   c table (check); m table, lengths of query and work, the query (member); e table, table (equal);
+//!   n table, length of work (normal); x table, lengths of query, work and output, the query (express);
 //!   b table, lengths of work and output (basis); s table, length of output (save_table);
-//!   f table, length of output (the basis, folded); l n, two lengths, two lists (shorter).
+//!   f table, length of output (the basis, folded); l n, two lengths, two lists (shorter);
+//!   w n, lengths of list and output, the list (save_list);
+//!   r lengths of file, table and text, the file (load); g the same (load, and what it loaded saved).
 //! chain: n, points, length of output; the table is a chain with loops, made here.
 //! A line is the reply: 'refused NUMBER PLACE'; or the figures; or yes, no. Then the lent cells (stored: of a table
 //! of at most 64, and check numbers; chain: how many work cells, of one more than needed, are not 0), the lent

@@ -1,23 +1,20 @@
-"""Calls on lent tables and on two lists, as the driver reads them (see tests/driver/main.rs), with this program's lines.
+"""Calls on lent tables and on two lists: of fresh lists, of the stored ones, of the small graphs."""
 
-A call is its name, its bytes, its line as items, and how many lent items the line shows.
-"""
-
-import struct
-from collections import namedtuple
-
-from .basis import basis, basis_words
-from .calls import shorter
+from .basis import basis_words
 from .corpus import cell_damages, random_word, shape_damages, spoilt
-from .files import number_bytes, save_table, table_file
-from .folding import ABSENT, breadth_table, fold_words_quickly
-from .lists import padded, some_list
-from .stored import CELL_BEFORE, cases as stored_cases
-from .tables import check, counts, equal, member
-from .words import MOST_BYTES, Refused, inverse, letter_count, list_text, refusal_of_list, spell, words_of
+from .expressed import call_tidy, damaged_expressions, expression_calls, long_expression
+from .filed import list_calls, load_calls
+from .files import number_bytes, table_file
+from .folding import ABSENT
+from .lists import product, some_list
+from .single import (BYTE_BEFORE, Call, Table, call_basis, call_check, call_equal, call_express, call_folded,
+                     call_member, call_normal, call_save, call_shorter, number, shown_bytes, table_of)
+from .stored import cases as stored_cases
+from .tables import check
+from .words import MOST_BYTES, inverse, list_text, refusal_of_list, spell, words_of
 
-BYTE_BEFORE = 77
 MANY_CELLS = 500
+MANY_POINTS = 2000
 SMALL_GRAPHS = [
     (2, b"", [b"", b"a"]), (2, b"aA\n", [b"", b"a"]), (2, b"bb\nbbb\n", [b"b"]), (2, b"ab\nab\n", [b"ab"]),
     (2, b"ab\n", [b"aBbb"]), (2, b"abA\n", [b"b"]), (1, b"aaa\n", [b"AAA", b"aa"]),
@@ -25,110 +22,8 @@ SMALL_GRAPHS = [
 ]
 BAD_POINTS = [0, 1048578, 2 ** 32, 2 ** 32 + 1, 2 ** 63, 2 ** 64 - 1]
 
-Table = namedtuple("Table", "n points cells")
-Call = namedtuple("Call", "name data items shown")
-
-
-def number(x, width):
-    """A number as the driver reads it."""
-    return x.to_bytes(width, "little")
-
-
-def table_bytes(table):
-    """A table as the driver reads it."""
-    return (number(table.n, 8) + number(table.points, 8) + number(len(table.cells), 4)
-            + struct.pack("<%dI" % len(table.cells), *table.cells))
-
-
-def answered(answer, *items):
-    """A refusal, or the items."""
-    return ["refused", *answer] if isinstance(answer, Refused) else [*items]
-
-
-def yes_or_no(answer):
-    """A refusal, yes or no."""
-    return answered(answer, "yes" if answer is True else "no")
-
-
-def shown_bytes(data):
-    """Lent bytes as they stand in a line."""
-    return "x" + data.hex()
-
-
-def call_check(table):
-    """The counts of a table."""
-    answer = check(*table)
-    return Call("check", b"c" + table_bytes(table), answered(answer, *answer), 0)
-
-
-def call_member(table, query, work):
-    """A query on a table."""
-    answer, after = member(*table, query, [CELL_BEFORE] * work)
-    data = b"m" + table_bytes(table) + number(len(query), 4) + number(work, 4) + query
-    return Call("member", data, yes_or_no(answer) + after, work)
-
-
-def call_equal(first, second):
-    """Two tables compared."""
-    answer = equal(*first, *second)
-    return Call("equal", b"e" + table_bytes(first) + table_bytes(second), yes_or_no(answer), 0)
-
-
-def call_basis(table, work, out):
-    """The basis of a table, written."""
-    answer, text, after = basis(*table, [CELL_BEFORE] * work, bytes([BYTE_BEFORE]) * out)
-    items = answered(answer) or [text[:answer].count(b"\n"), answer]
-    data = b"b" + table_bytes(table) + number(work, 4) + number(out, 4)
-    return Call("basis", data, items + after + [shown_bytes(text)], work + out)
-
-
-def call_save(table, out):
-    """A table saved."""
-    answer, file = save_table(*table, bytes([BYTE_BEFORE]) * out)
-    data = b"s" + table_bytes(table) + number(out, 4)
-    return Call("save_table", data, answered(answer, 0, answer) + [shown_bytes(file)], out)
-
-
-def call_folded(table, text):
-    """The basis that is written, folded by the library: the same table, by merging folds alone."""
-    n, points, cells = table.n, table.points, table.cells[:table.points * 2 * table.n]
-    words, letters = text.count(b"\n"), letter_count(text)
-    start = letters - words + 1
-    items = [words, len(text), points, *counts(n, points, cells), start, letters, start - points, 0]
-    after = cells + [ABSENT] * ((letters + 1) * 2 * n - len(cells))
-    data = b"f" + table_bytes(table) + number(len(text), 4)
-    return Call("basis folded", data, items + after, len(after))
-
-
-def call_shorter(n, first, second):
-    """The shorter of two lists."""
-    part = shorter(n, first, second)
-    which = 0 if part.length == 0 and not is_handed(n, first, second) else 1 + (part.which == "second")
-    data = b"l" + number(n, 8) + number(len(first), 4) + number(len(second), 4) + first + second
-    return Call("shorter", data, [which, part.length], 0)
-
-
-def is_handed(n, first, second):
-    """One of the lists is not refused."""
-    return not (refusal_of_list(n, first) and refusal_of_list(n, second))
-
 
 # Tables and queries.
-
-
-def table_of(n, text):
-    """The table of a list."""
-    cells = breadth_table(n, fold_words_quickly(words_of(text)).edges)
-    return Table(n, len(cells) // (2 * n), cells)
-
-
-def product(chance, n, words):
-    """A member by construction: words and their inverses one after another, not reduced."""
-    letters = []
-    for _ in range(chance.randint(1, 5) if words else 0):
-        factor = chance.choice(words)
-        letters += factor if chance.random() < 0.5 else inverse(factor)
-    return spell(padded(chance, n, letters, len(letters) + 6))
 
 
 def call_inside(chance, table, words):
@@ -183,6 +78,7 @@ def damaged_calls(chance, table, words):
         yield call_basis(other, room - chance.choice([0, 0, 0, 9]), chance.choice([0, 1000]))
         yield call_save(other, chance.choice([0, 1000]))
         yield call_equal(*chance.choice([(table, other), (other, table), (other, other)]))
+        yield from damaged_expressions(chance, table, words, other)
 
 
 def table_calls(chance, table, words):
@@ -192,6 +88,7 @@ def table_calls(chance, table, words):
     yield call_check(behind)
     yield call_equal(table, behind)
     yield from member_calls(chance, chance.choice([table, behind]), words)
+    yield from expression_calls(chance, chance.choice([table, behind]), words)
     yield from writing_calls(chance, table)
     yield call_save(behind, 2000)
 
@@ -209,6 +106,10 @@ def fresh_calls(chance, lists):
         n, text = random_list(chance)
         table, words = table_of(n, text), words_of(text)
         yield from table_calls(chance, table, words)
+        yield from list_calls(chance, n, text)
+        yield from load_calls(chance, table, text)
+        if chance.random() < 0.1:
+            yield long_expression(chance, table)
         if table.points * n <= 600:
             yield from damaged_calls(chance, table, words)
         other = last.get(n, table)
@@ -226,7 +127,13 @@ def small_graph_calls(chance):
     for n, text, queries in SMALL_GRAPHS:
         table = table_of(n, text)
         yield from table_calls(chance, table, words_of(text)) if len(table.cells) <= MANY_CELLS else ()
-        yield from (call_member(table, query, len(query)) for query in queries)
+        yield from list_calls(chance, n, text)
+        yield from load_calls(chance, table, text)
+        for query in queries:
+            yield call_member(table, query, len(query))
+            yield call_express(table, query, len(query), len(query))
+        if table.points > 1:
+            yield long_expression(chance, table) if len(table.cells) <= MANY_CELLS else call_tidy(chance, table, 3, 0)
 
 
 def long_calls(chance, table, words):
@@ -237,6 +144,8 @@ def long_calls(chance, table, words):
     yield call_basis(table, 4 * table.points, len(text))
     yield call_save(table, len(table_file(*table)))
     yield call_folded(table, text)
+    yield call_normal(table, 4 * table.points)
+    yield long_expression(chance, table) if table.points <= MANY_POINTS else call_tidy(chance, table, 3, 0)
 
 
 def stored_calls(chance):
@@ -245,6 +154,8 @@ def stored_calls(chance):
         table = table_of(n, text)
         some = table_calls if len(table.cells) <= MANY_CELLS else long_calls
         yield from some(chance, table, words_of(text)[:20])
+        yield from list_calls(chance, n, text)
+        yield from load_calls(chance, table, text)
 
 
 def shorter_calls(chance, pairs):

@@ -16,6 +16,9 @@ from second.called import (chain_call, fresh_calls, refused_calls, same_chain, s
                            small_graph_calls, stored_calls)
 from second.calls import ask, fold  # noqa: E402
 from second.corpus import random_word, spoilt  # noqa: E402
+from second.expressed import finite_calls, refused_expressions  # noqa: E402
+from second.filed import (damaged_calls_of_files, huge_calls, long_text_calls, random_file_calls,  # noqa: E402
+                          refused_lists)
 from second.folding import fold_words, fold_words_quickly  # noqa: E402
 from second.lists import KINDS, long_list, padded, some_list  # noqa: E402
 from second.stored import INPUT, OUTPUT, head, lent, needed, reply_items  # noqa: E402
@@ -29,6 +32,9 @@ BAD_N = [0, 27, 28, 256, 258, 65536, 2 ** 32, 2 ** 32 + 1, 2 ** 40, 2 ** 63, 2 *
 PAIRWISE_LETTERS = 300
 TABLES = 500
 PAIRS = 400
+ACTIONS = 150
+FILES = 4000
+AT_ONCE = 30
 MOST_POINTS = 1048577
 
 
@@ -173,9 +179,13 @@ def case_bytes(case):
             + text + b"".join(query))
 
 
-def driven(driver, mode, data):
-    """The lines that the driver prints."""
-    done = subprocess.run([driver, mode], input=data, stdout=subprocess.PIPE, check=False)
+def driven(driver, mode, data, seconds=None):
+    """The lines that the driver prints; none if it takes more seconds."""
+    try:
+        done = subprocess.run([driver, mode], input=data, stdout=subprocess.PIPE, check=False, timeout=seconds)
+    except subprocess.TimeoutExpired:
+        print("failed: the driver has not ended in %d seconds" % seconds)
+        return []
     if done.returncode != 0:
         print("failed: the driver ended with status %d" % done.returncode)
     return done.stdout.decode().splitlines()
@@ -214,9 +224,9 @@ def tell(what, items, shown, unit):
         what, len(items), shown, unit, len(refused), "".join(", " + one for one in met)))
 
 
-def run_calls(driver, mode, calls):
+def run_calls(driver, mode, calls, seconds=None):
     """Runs calls both ways, tells what each met, and gives the tally."""
-    got = driven(driver, mode, b"".join(call.data for call in calls))
+    got = driven(driver, mode, b"".join(call.data for call in calls), seconds)
     for name in sorted({call.name for call in calls}):
         mine = [call for call in calls if call.name == name]
         tell(name, [call.items for call in mine], sum(call.shown for call in mine), "lent items")
@@ -261,8 +271,12 @@ def main(driver):
     tallies = [run(driver, "folds", [*good_folds(chance), *bad_folds(chance)], fold_line), all_inside(inside),
                run(driver, "asks", inside + [*asks(chance)], ask_line), run_stored(driver),
                run_calls(driver, "calls", [*small_graph_calls(chance), *fresh_calls(chance, TABLES),
-                                           *stored_calls(chance), *shorter_calls(chance, PAIRS),
-                                           *refused_calls()]),
+                                           *stored_calls(chance), *finite_calls(chance, ACTIONS),
+                                           *shorter_calls(chance, PAIRS), *refused_calls(),
+                                           *refused_expressions(), *refused_lists()]),
+               run_calls(driver, "calls", [*damaged_calls_of_files(), *random_file_calls(chance, FILES),
+                                           *long_text_calls()]),
+               run_calls(driver, "calls", [*huge_calls()], AT_ONCE),
                run_chains(driver)]
     passed, failed = (sum(part) for part in zip(*tallies))
     print("%d passed, %d failed" % (passed, failed))

@@ -4,7 +4,7 @@ The most letters count as written, and the words need not be reduced.
 """
 
 from .corpus import random_word, random_words
-from .words import inverse, inverse_letter, letter_count, list_text
+from .words import inverse, inverse_letter, letter_count, list_text, spell
 
 
 def padded(chance, n, letters, most):
@@ -103,3 +103,12 @@ def long_list(chance, kind, n, most, least, most_letters):
         if least <= letters <= most_letters:
             return text
         most_words += (most_words // 8 + 1) * (1 if letters < least else -1)
+
+
+def product(chance, n, words):
+    """A member by construction: words and their inverses one after another, not reduced."""
+    letters = []
+    for _ in range(chance.randint(1, 5) if words else 0):
+        factor = chance.choice(words)
+        letters += factor if chance.random() < 0.5 else inverse(factor)
+    return spell(padded(chance, n, letters, len(letters) + 6))

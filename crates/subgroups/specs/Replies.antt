@@ -5,7 +5,10 @@
 --   answerReply a    == 1 for inside, 0 for outside
 --   equalityReply e  == 1 for equal, 0 for not
 --   basisReply a     == the words and bytes of a basis
+--   judgedReply j    == 1 for normal, 0 for other
+--   expressedReply e == 1 and how many numbers for inside, 0 for outside
 --   savedReply s     == the bytes of a file
+--   loadedReply l    == a table, kind 1, or a list, kind 2 (foundReply n N f, of n, points and what was found)
 --   handedReply w a b == which of the lists a and b, and its bytes
 -- Cited by `Outcomes` and by the functions that turn answers into replies. Assumes nothing.
 use mathlib.Core.List.{List}
@@ -27,12 +30,21 @@ use Rattle.equals.specs.declared.Equality.{Equality}
 use Rattle.equals.specs.declared.Equality.the-variants.{Refused as EqualRefused, Yes, No}
 use Rattle.bases.specs.declared.BasisAnswer.{BasisAnswer}
 use Rattle.bases.specs.declared.BasisAnswer.the-variants.{Refused as BasisRefused, Written as BasisWritten}
+use Rattle.normals.specs.declared.Judged.{Judged}
+use Rattle.normals.specs.declared.Judged.the-variants.{Refused as JudgeRefused, Normal, Other}
+use Rattle.expressions.specs.declared.Expressed.{Expressed}
+use Rattle.expressions.specs.declared.Expressed.the-variants.{Refused as ExpressRefused, Inside as ExpressInside, Outside as ExpressOutside}
 use Rattle.saves.specs.declared.Saved.{Saved}
 use Rattle.saves.specs.declared.Saved.the-variants.{Refused as SaveRefused, Written as FileWritten}
+use Rattle.loads.specs.declared.Loaded.{Loaded}
+use Rattle.loads.specs.declared.Found.{Found}
+use Rattle.loads.specs.declared.Found.the-variants.{Refused as LoadRefused, Table as TableFound, List as ListFound}
 use Rattle.subgroups.specs.declared.FoldReply.{FoldReply}
 use Rattle.subgroups.specs.declared.CheckReply.{CheckReply}
 use Rattle.subgroups.specs.declared.YesReply.{YesReply}
+use Rattle.subgroups.specs.declared.ExpressReply.{ExpressReply}
 use Rattle.subgroups.specs.declared.WrittenReply.{WrittenReply}
+use Rattle.subgroups.specs.declared.LoadReply.{LoadReply}
 use Rattle.subgroups.specs.declared.PartReply.{PartReply}
 
 abbrev pub finiteOf : Index → ℕ
@@ -107,6 +119,16 @@ equalityReply (EqualRefused r) = refusedYes r
 equalityReply Yes = said 1
 equalityReply No = said 0
 
+abbrev pub judgedReply : Judged → YesReply
+judgedReply (JudgeRefused r) = refusedYes r
+judgedReply Normal = said 1
+judgedReply Other = said 0
+
+abbrev pub expressedReply : Expressed → ExpressReply
+expressedReply (ExpressRefused r) = record { number = r .number; place = r .place; yes = 0; count = 0 }
+expressedReply (ExpressInside k) = record { number = 0; place = 0; yes = 1; count = k }
+expressedReply ExpressOutside = record { number = 0; place = 0; yes = 0; count = 0 }
+
 -- ── What is written ──
 
 abbrev pub refusedWriting : Refusal → WrittenReply
@@ -122,6 +144,18 @@ basisReply (BasisWritten words bytes) = wrote words bytes
 abbrev pub savedReply : Saved → WrittenReply
 savedReply (SaveRefused r) = refusedWriting r
 savedReply (FileWritten bytes) = wrote 0 bytes
+
+-- ── What is loaded ──
+
+abbrev pub foundReply : ℕ → ℕ → Found → LoadReply
+foundReply n N (LoadRefused r) =
+    record { number = r .number; place = r .place; kind = 0; n = 0; points = 0; words = 0; bytes = 0 }
+foundReply n N TableFound = record { number = 0; place = 0; kind = 1; n = n; points = N; words = 0; bytes = 0 }
+foundReply n N (ListFound words bytes) =
+    record { number = 0; place = 0; kind = 2; n = n; points = 0; words = words; bytes = bytes }
+
+abbrev pub loadedReply : Loaded → LoadReply
+loadedReply l = foundReply (l .subgroup .n) (l .subgroup .points) (l .found)
 
 -- ── Which list ──
 

@@ -1,14 +1,18 @@
 // The library that C and Rust programs link: each function answers a struct of plain numbers, laid out as in C.
 ghost use mathlib.Core.Path.{_≡_};
 ghost use Rattle.lists.specs.Shorter.{isGood};
-ghost use Rattle.subgroups.specs.Replies.{finiteOf, indexOf, madeReply, replyOf, countedReply, checkedReply, answerReply, equalityReply, basisReply, savedReply};
-ghost use Rattle.subgroups.specs.Outcomes.{FoldReplied, AskReplied, CheckReplied, MemberReplied, EqualReplied, BasisReplied, SaveTableReplied, ShorterReplied};
+ghost use Rattle.subgroups.specs.Replies.{finiteOf, indexOf, madeReply, replyOf, countedReply, checkedReply, answerReply, equalityReply, judgedReply, expressedReply, basisReply, savedReply, foundReply, loadedReply};
+ghost use Rattle.subgroups.specs.Outcomes.{FoldReplied, AskReplied, CheckReplied, MemberReplied, EqualReplied, NormalReplied, ExpressReplied, BasisReplied, SaveTableReplied, SaveListReplied, LoadReplied, ShorterReplied};
 use bases::BasisAnswer;
 use equals::Equality;
+use expressions::Expressed;
 use folds::FoldFigures;
 use folds::Folded;
 use lists::Scanned;
+use loads::Found;
+use loads::Loaded;
 use members::Answer;
+use normals::Judged;
 use saves::Saved;
 use tables::Checked;
 use tables::Figures;
@@ -209,6 +213,87 @@ pub extern "C" fn subgroups_equal(
     equality_reply(equals::equal(first, table, second, other))
 }
 
+// What is said of normality, as a reply.
+fn judged_reply(j: Judged) -> YesReply
+    ensures reply { λ r. ⌜ r ≡ judgedReply j ⌝ }
+{
+    match j {
+        Judged::Refused(r) => YesReply {
+            number: r.number,
+            place: r.place,
+            yes: 0,
+        },
+        Judged::Normal => YesReply {
+            number: 0,
+            place: 0,
+            yes: 1,
+        },
+        Judged::Other => YesReply {
+            number: 0,
+            place: 0,
+            yes: 0,
+        },
+    }
+}
+
+// Says whether the subgroup of a lent table is normal, or refuses.
+#[no_mangle]
+pub extern "C" fn subgroups_normal(n: u64, points: u64, table: &[u32], work: &mut [u32]) -> YesReply
+    ensures outcome { λ r. ⌜ NormalReplied n points (now (table .entry)) (now (work .entry)) r (now (work .exit)) ⌝ }
+{
+    judged_reply(normals::normal(Subgroup { n, points }, table, work))
+}
+
+// What expressing answers: a refusal (number 0 if there is none), or 1 for a member and how many numbers were written, or 0.
+#[repr(C)]
+pub struct ExpressReply {
+    pub number: u64,
+    pub place: u64,
+    pub yes: u64,
+    pub count: u64,
+}
+
+// What expressing says, as a reply.
+fn expressed_reply(e: Expressed) -> ExpressReply
+    ensures reply { λ r. ⌜ r ≡ expressedReply e ⌝ }
+{
+    match e {
+        Expressed::Refused(r) => ExpressReply {
+            number: r.number,
+            place: r.place,
+            yes: 0,
+            count: 0,
+        },
+        Expressed::Inside(count) => ExpressReply {
+            number: 0,
+            place: 0,
+            yes: 1,
+            count,
+        },
+        Expressed::Outside => ExpressReply {
+            number: 0,
+            place: 0,
+            yes: 0,
+            count: 0,
+        },
+    }
+}
+
+// Writes a member of the subgroup of a lent table as signed numbers of basis words, says that it is outside, or refuses.
+#[no_mangle]
+pub extern "C" fn subgroups_express(
+    n: u64,
+    points: u64,
+    table: &[u32],
+    query: &[u8],
+    work: &mut [u32],
+    out: &mut [i32],
+) -> ExpressReply
+    ensures outcome { λ r. ⌜ ExpressReplied n points (now (table .entry)) (now (query .entry)) (now (work .entry)) (now (out .entry)) r (now (work .exit)) (now (out .exit)) ⌝ }
+{
+    expressed_reply(expressions::express(Subgroup { n, points }, table, query, work, out))
+}
+
 // What checking a table answers: a refusal (number 0 if there is none), or its counts. What does not apply is 0.
 #[repr(C)]
 pub struct CheckReply {
@@ -334,6 +419,78 @@ pub extern "C" fn subgroups_save_table(
     ensures outcome { λ r. ⌜ SaveTableReplied n points (now (table .entry)) (now (out .entry)) r (now (out .exit)) ⌝ }
 {
     saved_reply(saves::save_table(Subgroup { n, points }, table, out))
+}
+
+// Saves a list as a file of kind 2, or refuses.
+#[no_mangle]
+pub extern "C" fn subgroups_save_list(n: u64, list: &[u8], out: &mut [u8]) -> WrittenReply
+    ensures outcome { λ r. ⌜ SaveListReplied n (now (list .entry)) (now (out .entry)) r (now (out .exit)) ⌝ }
+{
+    saved_reply(saves::save_list(n, list, out))
+}
+
+// What loading answers: a refusal and kind 0; or a table, kind 1, with n and its points; or a list, kind 2, with n and how many words and bytes its text has.
+#[repr(C)]
+pub struct LoadReply {
+    pub number: u64,
+    pub place: u64,
+    pub kind: u64,
+    pub n: u64,
+    pub points: u64,
+    pub words: u64,
+    pub bytes: u64,
+}
+
+// What a file was found to hold, as a reply.
+fn found_reply(n: u64, points: u64, f: Found) -> LoadReply
+    ensures reply { λ r. ⌜ r ≡ foundReply n points f ⌝ }
+{
+    match f {
+        Found::Refused(r) => LoadReply {
+            number: r.number,
+            place: r.place,
+            kind: 0,
+            n: 0,
+            points: 0,
+            words: 0,
+            bytes: 0,
+        },
+        Found::Table => LoadReply {
+            number: 0,
+            place: 0,
+            kind: 1,
+            n,
+            points,
+            words: 0,
+            bytes: 0,
+        },
+        Found::List { words, bytes } => LoadReply {
+            number: 0,
+            place: 0,
+            kind: 2,
+            n,
+            points: 0,
+            words,
+            bytes,
+        },
+    }
+}
+
+// What loading says, as a reply.
+fn loaded_reply(l: Loaded) -> LoadReply
+    ensures reply { λ r. ⌜ r ≡ loadedReply l ⌝ }
+{
+    let s = l.subgroup;
+    let found = l.found;
+    found_reply(s.n, s.points, found)
+}
+
+// Loads a file of either kind into the lent table or the lent text, or refuses.
+#[no_mangle]
+pub extern "C" fn subgroups_load(file: &[u8], table: &mut [u32], text: &mut [u8]) -> LoadReply
+    ensures outcome { λ r. ⌜ LoadReplied (now (file .entry)) (now (table .entry)) (now (text .entry)) r (now (table .exit)) (now (text .exit)) ⌝ }
+{
+    loaded_reply(loads::load(file, table, text))
 }
 
 // Which of two lists is handed back (1 the first, 2 the second, 0 neither), and how many of its bytes.
