@@ -14,8 +14,6 @@
  *
  * Of each function: its refusals in their order, and what each leaves in the buffers. Where nothing is refused the
  * needed work cells hold 0, an output changes in the part written alone, and all later cells are as they were.
- *
- * Declared ahead of the library, which does not hold them yet: normal, express, save_list, load.
  */
 #ifndef SUBGROUPS_H
 #define SUBGROUPS_H

@@ -1,6 +1,6 @@
 /* Every function on lists that look random, with buffers from malloc that are as long as needed and never written
- * before: for a tool that watches memory. What is asked: each word of a list is a member of its subgroup, and the
- * basis folds back to the same table. */
+ * before: for a tool that watches memory. What is asked: each word of a list is a member of its subgroup and is
+ * expressed, the basis folds back to the same table, basis word k is expressed as k, and what is saved loads back. */
 
 #include <stdio.h>
 #include <stdlib.h>
@@ -63,6 +63,22 @@ static Folded fold(uint64_t n, const uint8_t *list, size_t length)
     return f;
 }
 
+/* Expresses a word, and gives its only number; 0 if it has none or several. */
+static int32_t expressed(Folded f, const uint8_t *word, size_t length)
+{
+    uint32_t *work = fresh(length, 4);
+    ExpressReply r = subgroups_express(f.n, f.points, f.rows, f.cells, word, length, work, length, NULL, 0);
+    size_t count = r.number == SUBGROUPS_OUTPUT ? r.place : 0;
+    int32_t *out = fresh(count, 4);
+    r = subgroups_express(f.n, f.points, f.rows, f.cells, word, length, work, length, out, count);
+    check("express", r.number == 0 && r.yes == 1 && r.count == count);
+    int32_t number = count == 1 ? out[0] : 0;
+    for (size_t i = 0; i < count; i++) check("express: no number is 0", out[i] != 0);
+    free(work);
+    free(out);
+    return number;
+}
+
 static void words_are_members(Folded f, const uint8_t *list, size_t length)
 {
     for (size_t start = 0, end; start < length; start = end + 1) {
@@ -71,6 +87,7 @@ static void words_are_members(Folded f, const uint8_t *list, size_t length)
         uint32_t *work = fresh(end - start, 4);
         YesReply r = subgroups_member(f.n, f.points, f.rows, f.cells, word, end - start, work, end - start);
         check("member", r.number == 0 && r.yes == 1);
+        expressed(f, word, end - start);
         free(word);
         free(work);
     }
@@ -84,6 +101,11 @@ static void basis_folds_back(Folded f)
     uint8_t *out = fresh(length, 1);
     r = subgroups_basis(f.n, f.points, f.rows, f.cells, work, 4 * f.points, out, length);
     check("basis", r.number == 0 && r.bytes == length);
+    int32_t k = 0;
+    for (size_t start = 0, end; start < length; start = end + 1) {
+        for (end = start; out[end] != '\n'; end++) {}
+        check("express: basis word k", expressed(f, out + start, end - start) == ++k);
+    }
     Folded back = fold(f.n, out, length);
     YesReply same = subgroups_equal(f.n, f.points, f.rows, f.cells, back.n, back.points, back.rows, back.cells);
     check("equal", same.number == 0 && same.yes == 1);
@@ -94,7 +116,15 @@ static void basis_folds_back(Folded f)
     free(out);
 }
 
-static void file_has_its_length(Folded f)
+static void normal_is_answered(Folded f)
+{
+    uint32_t *work = fresh(4 * f.points, 4);
+    YesReply r = subgroups_normal(f.n, f.points, f.rows, f.cells, work, 4 * f.points);
+    check("normal", r.number == 0 && r.yes <= 1);
+    free(work);
+}
+
+static void table_loads_back(Folded f)
 {
     WrittenReply r = subgroups_save_table(f.n, f.points, f.rows, f.cells, NULL, 0);
     size_t length = r.place;
@@ -102,11 +132,26 @@ static void file_has_its_length(Folded f)
     check("save: length", r.number == SUBGROUPS_OUTPUT && length >= 3 + f.cells);
     r = subgroups_save_table(f.n, f.points, f.rows, f.cells, out, length);
     check("save", r.number == 0 && r.bytes == length && out[0] == 1 && out[1] == f.n);
-    uint8_t *again = fresh(length, 1);
-    subgroups_save_table(f.n, f.points, f.rows, f.cells, again, length);
-    check("save: the same again", memcmp(out, again, length) == 0);
-    free(again);
+    uint32_t *cells = fresh(f.cells, 4);
+    LoadReply l = subgroups_load(out, length, cells, f.cells, NULL, 0);
+    check("load", l.number == 0 && l.kind == 1 && l.n == f.n && l.points == f.points);
+    check("load: the same cells", memcmp(cells, f.rows, f.cells * 4) == 0);
+    free(cells);
     free(out);
+}
+
+static void list_loads_back(uint64_t n, const uint8_t *list, size_t length)
+{
+    WrittenReply r = subgroups_save_list(n, list, length, NULL, 0);
+    check("save_list: length", r.number == SUBGROUPS_OUTPUT);
+    uint8_t *file = fresh(r.place, 1), *text = fresh(length, 1);
+    r = subgroups_save_list(n, list, length, file, r.place);
+    check("save_list", r.number == 0);
+    LoadReply l = subgroups_load(file, r.bytes, NULL, 0, text, length);
+    check("load of a list", l.number == 0 && l.kind == 2 && l.n == n && l.bytes == length);
+    check("load of a list: the same text", memcmp(text, list, length) == 0);
+    free(file);
+    free(text);
 }
 
 int main(void)
@@ -124,7 +169,9 @@ int main(void)
         Folded f = fold(n, list, length);
         words_are_members(f, list, length);
         basis_folds_back(f);
-        file_has_its_length(f);
+        normal_is_answered(f);
+        table_loads_back(f);
+        list_loads_back(n, list, length);
         check("shorter", subgroups_shorter(n, list, length, list, length).which == 1);
         free(f.rows);
         free(list);

@@ -76,7 +76,6 @@ impl<'a> Shorter<'a> {
 }
 
 /// What was loaded.
-#[cfg(feature = "whole")]
 #[derive(Clone, Copy, Debug, PartialEq, Eq)]
 pub enum Loaded {
     /// A table; its cells stand in the lent table.
@@ -248,7 +247,6 @@ pub fn equal(first: Table, second: Table) -> Result<bool, Refusal> {
 /// assert!(subgroups::normal(table, &mut [0; 12])?);
 /// # Ok::<(), subgroups::Refusal>(())
 /// ```
-#[cfg(feature = "whole")]
 pub fn normal(table: Table, work: &mut [u32]) -> Result<bool, Refusal> {
     let reply = unsafe {
         raw::subgroups_normal(
@@ -309,7 +307,6 @@ pub fn basis(table: Table, work: &mut [u32], out: &mut [u8]) -> Result<Written, 
 /// assert_eq!(subgroups::express(table, b"aa", &mut work, &mut out)?, None);
 /// # Ok::<(), subgroups::Refusal>(())
 /// ```
-#[cfg(feature = "whole")]
 pub fn express(table: Table, query: &[u8], work: &mut [u32], out: &mut [i32]) -> Result<Option<usize>, Refusal> {
     let reply = unsafe {
         raw::subgroups_express(
@@ -383,7 +380,6 @@ pub fn save_table(table: Table, out: &mut [u8]) -> Result<usize, Refusal> {
 /// assert_eq!(&out[..length], [2, 2, 2, 2, 0, 3, 0]);
 /// # Ok::<(), subgroups::Refusal>(())
 /// ```
-#[cfg(feature = "whole")]
 pub fn save_list(n: u64, list: &[u8], out: &mut [u8]) -> Result<usize, Refusal> {
     let reply = unsafe { raw::subgroups_save_list(n, list.as_ptr(), list.len(), out.as_mut_ptr(), out.len()) };
     Refusal::unless_0(reply.number, reply.place)?;
@@ -406,7 +402,6 @@ pub fn save_list(n: u64, list: &[u8], out: &mut [u8]) -> Result<usize, Refusal> 
 /// assert_eq!(&text, b"aB\n\n\x07");
 /// # Ok::<(), subgroups::Refusal>(())
 /// ```
-#[cfg(feature = "whole")]
 pub fn load(file: &[u8], table: &mut [u32], text: &mut [u8]) -> Result<Loaded, Refusal> {
     let reply = unsafe {
         raw::subgroups_load(file.as_ptr(), file.len(), table.as_mut_ptr(), table.len(), text.as_mut_ptr(), text.len())

@@ -32,15 +32,13 @@ pub use refusal::{Cause, Refusal};
 pub use sizes::{ask_sizes, basis_work, fold_sizes, letters, table_cells, Sizes, MOST_BYTES, MOST_POINTS};
 pub use subgroup::Subgroup;
 
-#[cfg(feature = "whole")]
 pub use calls::{express, load, normal, save_list, Loaded};
-#[cfg(feature = "whole")]
 pub use subgroup::{loaded, saved_list, Saved};
 
 /// The cell of a letter that leads nowhere.
 pub const ABSENT: u32 = 4_294_967_295;
 
 // The examples of the guide are run as tests.
-#[cfg(all(doctest, feature = "whole"))]
+#[cfg(doctest)]
 #[doc = include_str!("../../../docs/USING.md")]
 struct Using;

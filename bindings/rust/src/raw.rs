@@ -47,7 +47,6 @@ pub struct PartReply {
     pub bytes: u64,
 }
 
-#[cfg(feature = "whole")]
 #[repr(C)]
 pub struct ExpressReply {
     pub number: u64,
@@ -56,7 +55,6 @@ pub struct ExpressReply {
     pub count: u64,
 }
 
-#[cfg(feature = "whole")]
 #[repr(C)]
 pub struct LoadReply {
     pub number: u64,
@@ -115,7 +113,6 @@ extern "C" {
         other_len: usize,
     ) -> YesReply;
 
-    #[cfg(feature = "whole")]
     pub fn subgroups_normal(
         n: u64,
         points: u64,
@@ -136,7 +133,6 @@ extern "C" {
         out_len: usize,
     ) -> WrittenReply;
 
-    #[cfg(feature = "whole")]
     pub fn subgroups_express(
         n: u64,
         points: u64,
@@ -167,10 +163,8 @@ extern "C" {
         out_len: usize,
     ) -> WrittenReply;
 
-    #[cfg(feature = "whole")]
     pub fn subgroups_save_list(n: u64, list: *const u8, list_len: usize, out: *mut u8, out_len: usize) -> WrittenReply;
 
-    #[cfg(feature = "whole")]
     pub fn subgroups_load(
         file: *const u8,
         file_len: usize,

@@ -25,7 +25,6 @@ pub struct Subgroup {
 }
 
 /// What a saved file held.
-#[cfg(feature = "whole")]
 #[derive(Clone, Debug, PartialEq, Eq)]
 pub enum Saved {
     /// A table.
@@ -140,7 +139,6 @@ impl Subgroup {
     /// assert!(!Subgroup::fold(2, "abA\n")?.is_normal()?);
     /// # Ok::<(), subgroups::Refusal>(())
     /// ```
-    #[cfg(feature = "whole")]
     pub fn is_normal(&self) -> Result<bool, Refusal> {
         calls::normal(self.table(), &mut vec![0; basis_work(self.points)])
     }
@@ -153,7 +151,6 @@ impl Subgroup {
     /// assert_eq!(h.express("a")?, None);
     /// # Ok::<(), subgroups::Refusal>(())
     /// ```
-    #[cfg(feature = "whole")]
     pub fn express(&self, query: impl AsRef<[u8]>) -> Result<Option<Vec<i32>>, Refusal> {
         let query = query.as_ref();
         let (mut work, mut out) = (vec![0; query.len()], vec![0; query.len()]);
@@ -171,7 +168,6 @@ impl Subgroup {
 /// assert_eq!(subgroups::saved_list(2, "aB\n\n")?, [2, 2, 2, 2, 0, 3, 0]);
 /// # Ok::<(), subgroups::Refusal>(())
 /// ```
-#[cfg(feature = "whole")]
 pub fn saved_list(n: u64, list: impl AsRef<[u8]>) -> Result<Vec<u8>, Refusal> {
     measured(|out| calls::save_list(n, list.as_ref(), out))
 }
@@ -185,7 +181,6 @@ pub fn saved_list(n: u64, list: impl AsRef<[u8]>) -> Result<Vec<u8>, Refusal> {
 /// assert_eq!(loaded(&h.save()?)?, Saved::Table(h));
 /// # Ok::<(), subgroups::Refusal>(())
 /// ```
-#[cfg(feature = "whole")]
 pub fn loaded(file: &[u8]) -> Result<Saved, Refusal> {
     // Each cell, each letter and each line end stands for a byte of the file at least.
     let (mut cells, mut list) = (vec![0; file.len()], vec![0; file.len()]);

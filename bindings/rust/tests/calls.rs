@@ -402,7 +402,6 @@ mod sizes {
     }
 }
 
-#[cfg(feature = "whole")]
 mod normality {
     use super::*;
     use subgroups::normal;
@@ -436,7 +435,6 @@ mod normality {
     }
 }
 
-#[cfg(feature = "whole")]
 mod expressing {
     use super::*;
     use subgroups::express;
@@ -486,7 +484,6 @@ mod expressing {
     }
 }
 
-#[cfg(feature = "whole")]
 mod files {
     use super::*;
     use subgroups::{load, save_list, Loaded};

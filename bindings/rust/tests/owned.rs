@@ -70,7 +70,6 @@ fn words_name_the_cells_needed() {
     assert_eq!(refusal.to_string(), "work buffer too short: 24 cells needed");
 }
 
-#[cfg(feature = "whole")]
 #[test]
 fn files() {
     use subgroups::{loaded, saved_list, Saved};
@@ -83,7 +82,6 @@ fn files() {
     assert_eq!(loaded(&[1, 2, 9, 0]).unwrap_err().cause, Cause::Table);
 }
 
-#[cfg(feature = "whole")]
 #[test]
 fn expressions() {
     let h = Subgroup::fold(2, LIST).unwrap();

@@ -3,7 +3,7 @@
 use std::sync::Barrier;
 use std::thread;
 
-use subgroups::{ask, basis, check, equal, fold, member, save_table, shorter};
+use subgroups::{ask, basis, check, equal, express, fold, load, member, normal, save_list, save_table, shorter};
 use subgroups::{ask_sizes, basis_work, fold_sizes, table_cells, Subgroup, Table};
 
 const THREADS: usize = 16;
@@ -47,10 +47,15 @@ fn answers(seed: u64) -> String {
     let mut file = vec![7; 4000];
     let saved = save_table(table, &mut file);
     let held = member(table, &query, &mut vec![7; query.len()]);
+    let mut numbers = vec![7; query.len()];
+    let shown = express(table, &query, &mut vec![7; query.len()], &mut numbers);
+    let read = load(&file[..saved.unwrap()], &mut vec![7; 4000], &mut []);
+    let kept = save_list(n, &list, &mut vec![7; 4000]);
+    let even = normal(table, &mut room);
     let same = equal(table, Subgroup::fold(n, &other).unwrap().table());
     assert_eq!(asked, held);
     format!(
-        "{folded:?} {cells:?} {asked:?} {:?} {written:?} {out:?} {saved:?} {file:?} {same:?} {:?} {:?}",
+        "{shown:?} {numbers:?} {read:?} {kept:?} {even:?} {folded:?} {cells:?} {asked:?} {:?} {written:?} {out:?} {saved:?} {file:?} {same:?} {:?} {:?}",
         check(table),
         shorter(n, &list, &other),
         fold(n, b"a", &mut cells, &mut work),
