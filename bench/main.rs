@@ -103,9 +103,27 @@ fn main() {
     if chosen("folds") {
         folds();
     }
+    if part.as_deref() == Some("lists") {
+        lists(&std::env::args().nth(2).expect("a folder for the lists"));
+    }
     if chosen("tables") {
         tables::print(std::env::args().nth(2).map_or(usize::MAX, |most| most.parse().expect("a number of points")));
     }
+}
+
+/// Writes the smallest list of each shape and n into a folder, with an index of them: for other engines.
+fn lists(folder: &str) {
+    let mut index = String::new();
+    for shape in &SHAPES {
+        for n in ALPHABETS.into_iter().filter(|&n| n >= shape.least_n) {
+            let list = (shape.list)(n, SIZES[0]);
+            let letters = list.iter().filter(|&&byte| byte != b'\n').count();
+            let file = format!("{folder}/{} {n}", shape.name);
+            std::fs::write(&file, &list).expect("a list written");
+            index += &format!("{file}\t{n}\t{letters}\t{}\n", shape.name);
+        }
+    }
+    std::fs::write(format!("{folder}/index"), index).expect("the index written");
 }
 
 /// Prints the rows of every shape and size.

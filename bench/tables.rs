@@ -2,7 +2,7 @@
 //! buffers. Both must give the same replies and leave the same cells, bytes and numbers.
 
 use crate::plain;
-use crate::replies::{CheckReply, ExpressReply, WrittenReply, YesReply};
+use crate::replies::{CheckReply, ExpressReply, LoadReply, WrittenReply, YesReply};
 use crate::shapes::{action, inverse, long_word, matrices, random_words, ABSENT};
 use crate::{least, shown};
 
@@ -21,6 +21,7 @@ struct Engine {
     basis: fn(u64, u64, &[u32], &mut [u32], &mut [u8]) -> WrittenReply,
     save_table: fn(u64, u64, &[u32], &mut [u8]) -> WrittenReply,
     save_list: fn(u64, &[u8], &mut [u8]) -> WrittenReply,
+    load: fn(&[u8], &mut [u32], &mut [u8]) -> LoadReply,
 }
 
 macro_rules! engine {
@@ -34,6 +35,7 @@ macro_rules! engine {
             basis: from::basis,
             save_table: from::save_table,
             save_list: from::save_list,
+            load: from::load,
         }
     }};
 }
@@ -44,7 +46,7 @@ const LIBRARY: Option<Engine> = Some(engine!(crate::library));
 #[cfg(plain)]
 const LIBRARY: Option<Engine> = None;
 
-/// What a call works on: a canonical table, queries, a list, and the buffers that suffice.
+/// What a call works on: a canonical table, queries, a list, the files of both, and the buffers that suffice.
 struct Lent {
     n: u64,
     points: u64,
@@ -52,6 +54,8 @@ struct Lent {
     query: Vec<u8>,
     members: [Vec<u8>; 2],
     list: Vec<u8>,
+    files: [Vec<u8>; 2],
+    cells: Vec<u32>,
     work: Vec<u32>,
     out: Vec<u8>,
     numbers: Vec<i32>,
@@ -66,14 +70,23 @@ impl Lent {
         plain::basis(n as u64, points as u64, &table, &mut work, &mut out);
         let members = [200, 5_000].map(|count| product(&out, count));
         let list = random_words(n, points, 100);
-        let file = plain::save_table(n as u64, points as u64, &table, &mut []).place as usize;
-        let other = plain::save_list(n as u64, &list, &mut []).place as usize;
-        out.resize(needed.max(file).max(other), 77);
+        let files = [
+            saved(|out| plain::save_table(n as u64, points as u64, &table, out)),
+            saved(|out| plain::save_list(n as u64, &list, out)),
+        ];
+        out.resize(needed.max(files[0].len()).max(files[1].len()).max(list.len()), 77);
         work.truncate(members.iter().map(Vec::len).max().unwrap_or(0).max(4 * points));
         let numbers = vec![777; members.iter().map(Vec::len).max().unwrap_or(0)];
-        let query = long_word(n, points);
-        Lent { n: n as u64, points: points as u64, table, query, members, list, work, out, numbers }
+        let (query, cells) = (long_word(n, points), vec![777; table.len()]);
+        Lent { n: n as u64, points: points as u64, table, query, members, list, files, cells, work, out, numbers }
     }
+}
+
+/// The bytes that a call writes.
+fn saved(mut save: impl FnMut(&mut [u8]) -> WrittenReply) -> Vec<u8> {
+    let mut out = vec![0; save(&mut []).place as usize];
+    save(&mut out);
+    out
 }
 
 /// So many words of a basis, from all over it, every second inverted: fewer where they would have too many letters.
@@ -118,7 +131,12 @@ fn expressed(e: &Engine, l: &mut Lent, which: usize) -> [u64; 4] {
     [r.number, r.place, r.yes, r.count]
 }
 
-const CALLS: [Call; 8] = [
+fn loaded(e: &Engine, l: &mut Lent, which: usize) -> [u64; 4] {
+    let r = (e.load)(&l.files[which], &mut l.cells, &mut l.out);
+    [r.number, r.kind, r.points + r.words, r.bytes]
+}
+
+const CALLS: [Call; 10] = [
     on_table("check", |e, l| {
         let r = (e.check)(l.n, l.points, &l.table);
         [r.number, r.edges, r.rank, r.index]
@@ -129,16 +147,19 @@ const CALLS: [Call; 8] = [
     on_table("express, 5,000 words", |e, l| expressed(e, l, 1)),
     on_table("basis", |e, l| written((e.basis)(l.n, l.points, &l.table, &mut l.work, &mut l.out))),
     on_table("save_table", |e, l| written((e.save_table)(l.n, l.points, &l.table, &mut l.out))),
+    on_table("load, a table", |e, l| loaded(e, l, 0)),
     on_list("save_list", |e, l| written((e.save_list)(l.n, &l.list, &mut l.out))),
+    on_list("load, a list", |e, l| loaded(e, l, 1)),
 ];
 
-/// The reply of an engine, with the work and the outputs that it leaves.
-fn outcome(call: &Call, engine: &Engine, lent: &mut Lent) -> ([u64; 4], Vec<u32>, Vec<u8>, Vec<i32>) {
+/// The reply of an engine, and the lent buffers that it leaves.
+fn outcome(call: &Call, engine: &Engine, lent: &mut Lent) -> ([u64; 4], [Vec<u32>; 2], Vec<u8>, Vec<i32>) {
     lent.work.fill(777);
+    lent.cells.fill(777);
     lent.out.fill(77);
     lent.numbers.fill(777);
     let reply = (call.made)(engine, lent);
-    (reply, lent.work.clone(), lent.out.clone(), lent.numbers.clone())
+    (reply, [lent.work.clone(), lent.cells.clone()], lent.out.clone(), lent.numbers.clone())
 }
 
 fn rows(shape: &str, n: usize, table: Vec<u32>) {
@@ -168,7 +189,7 @@ pub fn print(most: usize) {
     println!(
         "\nLeast of six or more runs, ns a cell of the table; of a list, which has a letter a point, ns a byte.\n\
          A query has as many letters as there are points. A reply is rank and index, yes and the numbers of an\n\
-         expression, or words and bytes.\n"
+         expression, or words (of a table loaded, points) and bytes.\n"
     );
     println!("| call | shape | n | points | reply | library | plain | library / plain |");
     println!("|---|---|--:|--:|--:|--:|--:|--:|");
