@@ -7,13 +7,14 @@ use crate::shapes::{action, inverse, long_word, matrices, random_words, ABSENT};
 use crate::{least, shown};
 
 const POINTS: [usize; 3] = [1_000, 100_000, 1_000_000];
-const ALPHABETS: [usize; 2] = [2, 26];
+const ALPHABETS: [usize; 3] = [2, 3, 26];
 const MOST_CELLS: usize = 12_000_000;
 const MOST_LETTERS: usize = 1_000_000;
 
 /// The calls of one engine.
 #[derive(Clone, Copy)]
 struct Engine {
+    ask: fn(u64, &[u8], &[u8], &mut [u32], &mut [u32]) -> YesReply,
     check: fn(u64, u64, &[u32]) -> CheckReply,
     member: fn(u64, u64, &[u32], &[u8], &mut [u32]) -> YesReply,
     normal: fn(u64, u64, &[u32], &mut [u32]) -> YesReply,
@@ -28,6 +29,7 @@ macro_rules! engine {
     ($from:path) => {{
         use $from as from;
         Engine {
+            ask: from::ask,
             check: from::check,
             member: from::member,
             normal: from::normal,
@@ -75,9 +77,9 @@ impl Lent {
             saved(|out| plain::save_list(n as u64, &list, out)),
         ];
         out.resize(needed.max(files[0].len()).max(files[1].len()).max(list.len()), 77);
-        work.truncate(members.iter().map(Vec::len).max().unwrap_or(0).max(4 * points));
+        work.resize(members.iter().map(Vec::len).max().unwrap_or(0).max(8 * (points + 1)), 777);
         let numbers = vec![777; members.iter().map(Vec::len).max().unwrap_or(0)];
-        let (query, cells) = (long_word(n, points), vec![777; table.len()]);
+        let (query, cells) = (long_word(n, points), vec![777; table.len() + 2 * n]);
         Lent { n: n as u64, points: points as u64, table, query, members, list, files, cells, work, out, numbers }
     }
 }
@@ -136,7 +138,7 @@ fn loaded(e: &Engine, l: &mut Lent, which: usize) -> [u64; 4] {
     [r.number, r.kind, r.points + r.words, r.bytes]
 }
 
-const CALLS: [Call; 10] = [
+const CALLS: [Call; 11] = [
     on_table("check", |e, l| {
         let r = (e.check)(l.n, l.points, &l.table);
         [r.number, r.edges, r.rank, r.index]
@@ -148,6 +150,7 @@ const CALLS: [Call; 10] = [
     on_table("basis", |e, l| written((e.basis)(l.n, l.points, &l.table, &mut l.work, &mut l.out))),
     on_table("save_table", |e, l| written((e.save_table)(l.n, l.points, &l.table, &mut l.out))),
     on_table("load, a table", |e, l| loaded(e, l, 0)),
+    on_list("ask", |e, l| said((e.ask)(l.n, &l.list, &l.query, &mut l.cells, &mut l.work))),
     on_list("save_list", |e, l| written((e.save_list)(l.n, &l.list, &mut l.out))),
     on_list("load, a list", |e, l| loaded(e, l, 1)),
 ];
