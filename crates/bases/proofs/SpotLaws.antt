@@ -14,14 +14,9 @@ use Rattle.theory.specs.Tables.{Cells}
 use Rattle.theory.specs.Basis.{Spot, spotsOf, scan, isPathEdge, those, isEdge, edgesOf, outsideEdges, basisWord, basisOf}
 use Rattle.theory.specs.Texts.{listText}
 use Rattle.theory.proofs.WordLaws.{byTest}
+use Rattle.tables.proofs.ScanLaws.{those-append}
 use Rattle.bases.specs.Words.{isOutside, basisIn, textOf, sizeIn, grown}
 use Rattle.bases.specs.declared.Size.{Size}
-
-those-append : (f : Spot → Bool) (a b : List Spot) → those f (a ++ b) ≡ those f a ++ those f b
-unfolding those
-those-append f [] b = refl
-those-append f (s ∷ a) b =
-    let r = those-append f a b in byTest (f s) (λ e. rw e (ap (λ l. s ∷ l) r)) (λ e. rw e r)
 
 -- those that pass one test, then another, pass both
 those-both : (f g : Spot → Bool) (l : List Spot) → those (λ s. f s && g s) l ≡ those g (those f l)

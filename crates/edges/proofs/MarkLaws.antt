@@ -21,11 +21,12 @@ use Rattle.theory.specs.Tables.{Cells, cell}
 use Rattle.theory.specs.Basis.{Spot, spotsOf, scan, isEdge, edgesOf, outsideEdges, numberIn}
 use Rattle.theory.proofs.PathLaws.{spot}
 use Rattle.theory.proofs.EdgeLaws.{number-at, distinct-outside}
+use Rattle.tables.proofs.ScanLaws.{spotsTo, getD-spots, spots-there}
 use Rattle.edges.specs.declared.Tally.{Tally}
 use Rattle.edges.specs.Edges.{Sound, isOutside, outsideIn, tallyBefore, markRow, marksOf}
 use Rattle.edges.specs.Steps.{tallyAt, runOf, left, found}
 use Rattle.edges.proofs.StepLaws.{sound-setting}
-use Rattle.edges.proofs.TallyLaws.{outside-append, outside-first, spotsTo, getD-spots, spots-there, tally-start}
+use Rattle.edges.proofs.TallyLaws.{tally-eq, outside-append, outside-first, tally-start}
 
 -- ── Rows of marks ──
 
@@ -80,9 +81,6 @@ module _ (N k : ℕ) where
       )
 
 -- ── A mark's cells ──
-
-tally-eq : {a b d e : ℕ} → a ≡ d → b ≡ e → _≡_ {A = Tally} (record { met = a; edges = b }) (record { met = d; edges = e })
-tally-eq p q = λ i. record { met = p i; edges = q i }
 
 pub found-first : (work : List ℕ) (j : ℕ) → j ≡ 0 → _≡_ {A = Tally} (record { met = 0; edges = 0 }) (found work j)
 unfolding found

@@ -31,13 +31,9 @@ use Rattle.theory.proofs.PlaceLaws.{passes-fails, fails, ComesBefore, IsFirst, 
 use Rattle.theory.proofs.PathLaws.{Setting, usual-setting, spot, Step, leads-in, met, step-leads}
 use Rattle.theory.proofs.EdgeLaws.{isPathStep-sound}
 use Rattle.tables.specs.Cells.{Inside}
-use Rattle.tables.proofs.CellTurn.{Sizes, sizes, product-small}
+use Rattle.tables.proofs.CellTurn.{or-false, Sizes, sizes, product-small}
 use Rattle.edges.specs.Edges.{Sound, isOutside}
 use Rattle.edges.specs.Steps.{placeBack, placeOf, stepPlace}
-
-or-false : (b : Bool) → (b || false) ≡ b
-or-false true = refl
-or-false false = refl
 
 module _ (c : Cells) (N w x z : ℕ) where
   pub back-absent : c x z ≡ absent → placeBack c N w x z ≡ N * w

@@ -7,51 +7,55 @@
 --   tally-few   : there are no more edges than cells
 -- Assumes nothing.
 use mathlib.Core.Path.{_≡_, refl, sym, _∙_, ap, subst}
-use mathlib.Core.Logic.{inl, inr, ⊎-elim, by-cases}
+use mathlib.Core.Logic.{inl, ⊎-elim, by-cases}
 use mathlib.Core.Bool.{Bool, true, false, not, _&&_}
-use mathlib.Core.Option.{some}
-use mathlib.Core.List.{List, [], _∷_, _++_, append-assoc, append-nil}
+use mathlib.Core.List.{List, [], _∷_, _++_, append-nil}
 use Prim.Native.Nat.{ℕ, zero, suc, _+_, _*_, _%_, _≤_, _<_, max}
 use native.Mathlib.Nat.{suc-mul}
-use native.Mathlib.Decide.{ℕ-discrete, decLt}
+use native.Mathlib.Decide.{ℕ-discrete}
 use native.Mathlib.Numerals.{add-one}
 use native.Mathlib.Omega.{arith}
 use lib.Dec.{eqb}
-use lib.ListN.{length, getD, take, length-append, length-map, length-take, List·getD-append, List·getD-map}
-use lib.Seq.{getD-append-add, take-suc, take-all}
+use lib.ListN.{length, take, length-append, length-take}
 use borrow.Author.Tests.{eq-eqb, ne-eqb}
-use Rattle.theory.specs.Letters.{usual, StandsIn}
+use Rattle.theory.specs.Letters.{usual}
 use Rattle.theory.specs.Tables.{absent, Cells, cell}
 use Rattle.theory.specs.Graphs.{isLower}
 use Rattle.theory.specs.Canonical.{rowsBefore, earlier, greatestMet}
-use Rattle.theory.specs.Basis.{Spot, spotsOf, scan, spotAt, firstMet, isPathStep, isPathEdge, those, isEdge}
+use Rattle.theory.specs.Basis.{Spot, spotsOf, scan, isPathStep, isPathEdge, those, isEdge}
 use Rattle.theory.proofs.WordLaws.{byTest}
 use Rattle.theory.proofs.TableLaws.{length-usual, getD-usual, row-below}
-use Rattle.theory.proofs.PlaceLaws.{fails, ComesBefore, IsFirst, firstPlace-is}
-use Rattle.theory.proofs.RowLaws.{Met, earlier-suc, earlier-row, earlier-start, earlier-of-cell, cell-of-earlier, greatestMet-most, greatestMet-append}
+use Rattle.theory.proofs.PlaceLaws.{fails}
+use Rattle.theory.proofs.RowLaws.{earlier-start, cell-of-earlier}
 use Rattle.theory.proofs.PathLaws.{spot}
 use Rattle.theory.proofs.EdgeLaws.{those-length, isPathStep-sound, isPathStep-complete}
 use Rattle.tables.proofs.CellTurn.{product-small}
+use Rattle.tables.proofs.ScanLaws.{
+  and-none,
+  those-append,
+  spotsTo,
+  length-spots,
+  spots-more,
+  spots-row,
+  Dense,
+  dense-more,
+  dense-absent,
+  greatest-more,
+  greatest-absent,
+  before-more,
+  before-row,
+  first-here,
+}
 use Rattle.edges.specs.declared.Tally.{Tally}
 use Rattle.edges.specs.Edges.{Sound, isOutside, outsideIn, tallyBefore}
 use Rattle.edges.specs.Steps.{placeBack, stepPlace, tallyAt}
 use Rattle.edges.proofs.StepLaws.{sound-sizes, back-test, first-least}
 
 -- equal parts, equal tallies
-tally-eq : {a b d e : ℕ} → a ≡ d → b ≡ e → _≡_ {A = Tally} (record { met = a; edges = b }) (record { met = d; edges = e })
+pub tally-eq : {a b d e : ℕ} → a ≡ d → b ≡ e → _≡_ {A = Tally} (record { met = a; edges = b }) (record { met = d; edges = e })
 tally-eq p q = λ i. record { met = p i; edges = q i }
 
-and-none : (b : Bool) → (b && false) ≡ false
-and-none true = refl
-and-none false = refl
-
 -- ── Edges outside the paths among spots ──
-
-those-append : (f : Spot → Bool) (a b : List Spot) → those f (a ++ b) ≡ those f a ++ those f b
-unfolding those
-those-append f [] b = refl
-those-append f (s ∷ a) b =
-    let r = those-append f a b in byTest (f s) (λ e. rw e (ap (λ l. s ∷ l) r)) (λ e. rw e r)
 
 module _ (c : Cells) (N : ℕ) (ys : List ℕ) where
   -- the test of a spot
@@ -85,14 +89,6 @@ module _ (c : Cells) (N : ℕ) (ys : List ℕ) where
   unfolding outsideIn
   outside-few l = omega (arith, those-length (isEdge c) l, those-length outside (those (isEdge c) l))
 
--- the spots before place y of row v
-abbrev pub spotsTo : List ℕ → ℕ → ℕ → List Spot
-spotsTo ys v y = scan v ys ++ take y (spotsOf ys v)
-
-length-spots : (ys : List ℕ) (v : ℕ) → length (spotsOf ys v) ≡ length ys
-unfolding spotsOf
-length-spots ys v = length-map ys (spot v)
-
 length-scan : (ys : List ℕ) (v : ℕ) → length (scan v ys) ≡ v * length ys
 unfolding scan
 length-scan ys zero = omega arith
@@ -100,24 +96,6 @@ length-scan ys (suc v) =
     length-append (scan v ys) (spotsOf ys v) ∙ omega (arith, length-scan ys v, length-spots ys v, suc-mul v (length ys))
 
 module _ (n v : ℕ) where
-  pub getD-spots : (y : ℕ) → y < 2 * n → getD (spotsOf (usual n) v) y (spot v 0) ≡ spot v y
-  unfolding spotsOf
-  getD-spots y h = List·getD-map (spot v) (usual n) y 0 ∙ ap (spot v) (getD-usual n y h)
-
-  pub spots-there : (y : ℕ) → y < 2 * n → y < length (spotsOf (usual n) v)
-  spots-there y h = omega (arith, length-spots (usual n) v, length-usual n)
-
-  spots-more : (y : ℕ) → y < 2 * n → spotsTo (usual n) v (suc y) ≡ spotsTo (usual n) v y ++ (spot v y ∷ [])
-  spots-more y h =
-      ap (λ l. scan v (usual n) ++ l) (take-suc (spotsOf (usual n) v) y (spot v 0) (spots-there y h) ∙ ap (λ s. take y (spotsOf (usual n) v) ++ (s ∷ [])) (getD-spots y h))
-      ∙ sym (append-assoc (scan v (usual n)) (take y (spotsOf (usual n) v)) (spot v y ∷ []))
-
-  spots-row : spotsTo (usual n) v (2 * n) ≡ spotsTo (usual n) (suc v) 0
-  unfolding scan
-  spots-row =
-      ap (λ l. scan v (usual n) ++ l) (take-all (2 * n) (spotsOf (usual n) v) (omega (arith, length-spots (usual n) v, length-usual n)))
-      ∙ sym (append-nil (scan v (usual n) ++ spotsOf (usual n) v))
-
   spots-few : (y : ℕ) → length (spotsTo (usual n) v y) ≤ v * (2 * n) + y
   spots-few y =
       omega (
@@ -130,41 +108,6 @@ module _ (n v : ℕ) where
 
 -- ── Points met ──
 
-stands-left : (l : List ℕ) (a x : ℕ) → StandsIn l x → StandsIn (l ++ (a ∷ [])) x
-stands-left l a x s = (s .0, omega (arith, length-append l (a ∷ []), s .1), List·getD-append l (a ∷ []) 0 (s .0) (s .1) ∙ s .2)
-
-stands-last : (l : List ℕ) (a : ℕ) → StandsIn (l ++ (a ∷ [])) a
-stands-last l a = (length l + 0, omega (arith, length-append l (a ∷ [])), getD-append-add l (a ∷ []) 0 0)
-
-greatest-there : (l : List ℕ) (a : ℕ) → (a ≡ absent → ⊥) → greatestMet (l ++ (a ∷ [])) ≡ max (greatestMet l) a
-unfolding greatestMet
-greatest-there l a m = greatestMet-append l (a ∷ []) ∙ ap (max (greatestMet l)) one
-  where
-    one : greatestMet (a ∷ []) ≡ a
-    one = rw (ne-eqb a absent m) (omega arith)
-
-greatest-absent : (l : List ℕ) (a : ℕ) → a ≡ absent → greatestMet (l ++ (a ∷ [])) ≡ greatestMet l
-unfolding greatestMet
-greatest-absent l a m = greatestMet-append l (a ∷ []) ∙ ap (max (greatestMet l)) one ∙ omega arith
-  where
-    one : greatestMet (a ∷ []) ≡ 0
-    one = rw (eq-eqb a absent m)
-
--- every point up to the greatest met in l is met
-abbrev Dense : List ℕ → Type 0
-Dense l = (x : ℕ) → x ≤ greatestMet l → Met l x
-
--- a cell more, absent or of at most the next point
-dense-more : (l : List ℕ) (a : ℕ) → Dense l → ((a ≡ absent → ⊥) → a ≤ suc (greatestMet l)) → Dense (l ++ (a ∷ []))
-dense-more l a d h x k =
-    by-cases (ℕ-discrete a absent) (λ m. kept (omega (arith, greatest-absent l a m)))
-    (λ m. by-cases (decLt (greatestMet l) x)
-    (λ b. let e : a ≡ x = omega (arith, h m, greatest-there l a m) in inr (subst (StandsIn (l ++ (a ∷ []))) e (stands-last l a), λ q. m (e ∙ q)))
-    (λ b. kept (omega arith)))
-  where
-    kept : x ≤ greatestMet l → Met (l ++ (a ∷ [])) x
-    kept b = ⊎-elim inl (λ s. inr (stands-left l a x (s .0), s .1)) (d x b)
-
 module _ {n N : ℕ} {t : List ℕ} (S : Sound n N t) where
   abbrev c : Cells
   c = cell n N t
@@ -172,60 +115,35 @@ module _ {n N : ℕ} {t : List ℕ} (S : Sound n N t) where
   abbrev before : ℕ → ℕ → List ℕ
   before v y = earlier (cell n N t) (usual n) v y
 
-  before-more : (v y : ℕ) → y < 2 * n → before v (suc y) ≡ before v y ++ (c v y ∷ [])
-  before-more v y h =
-      earlier-suc c (usual n) v y (omega (arith, length-usual n)) ∙ ap (λ z. before v y ++ (c v z ∷ [])) (getD-usual n y h)
+  -- a cell more, absent or of at most the next point
+  dense-cell : (v y : ℕ) → y < 2 * n → Dense (before v y) (greatestMet (before v y)) → Dense (before v (suc y)) (greatestMet (before v (suc y)))
+  dense-cell v y h d =
+      subst (λ l. Dense l (greatestMet l)) (sym (before-more c n v y h))
+      (by-cases (ℕ-discrete (c v y) absent)
+      (λ m. subst (Dense l) (sym (greatest-absent (before v y) (c v y) m)) (dense-absent (before v y) (greatestMet (before v y)) (c v y) d))
+      (λ m. subst (Dense l) (sym (greatest-more (before v y) (c v y) m))
+      (dense-more (before v y) (greatestMet (before v y)) (c v y) d m
+      (S .canonical .next v y (c v y) (omega (arith, length-usual n)) (ap (c v) (getD-usual n y h), m)))))
+    where
+      l : List ℕ
+      l = before v y ++ (c v y ∷ [])
 
-  before-row : (v : ℕ) → before v (2 * n) ≡ before (suc v) 0
-  before-row v = ap (before v) (sym (length-usual n)) ∙ sym (earlier-row c (usual n) v)
-
-  dense-row : (v : ℕ) → Dense (before v 0) → (y : ℕ) → y ≤ 2 * n → Dense (before v y)
+  dense-row : (v : ℕ) → Dense (before v 0) (greatestMet (before v 0)) → (y : ℕ) → y ≤ 2 * n → Dense (before v y) (greatestMet (before v y))
   dense-row v d zero h = d
-  dense-row v d (suc y) h =
-      subst Dense (sym (before-more v y (omega arith)))
-      (dense-more (before v y) (c v y) (dense-row v d y (omega arith))
-      (λ m. S .canonical .next v y (c v y) (omega (arith, length-usual n)) (ap (c v) (getD-usual n y (omega arith)), m)))
+  dense-row v d (suc y) h = dense-cell v y (omega arith) (dense-row v d y (omega arith))
 
-  dense-rows : (v : ℕ) → Dense (before v 0)
+  dense-rows : (v : ℕ) → Dense (before v 0) (greatestMet (before v 0))
   unfolding greatestMet
-  dense-rows zero = subst Dense (sym (earlier-start c (usual n))) (λ x h. inl (omega arith))
-  dense-rows (suc v) = subst Dense (before-row v) (dense-row v (dense-rows v) (2 * n) (omega arith))
+  dense-rows zero = subst (λ l. Dense l (greatestMet l)) (sym (earlier-start c (usual n))) (λ x h. inl (omega arith))
+  dense-rows (suc v) = subst (λ l. Dense l (greatestMet l)) (sym (before-row c n v)) (dense-row v (dense-rows v) (2 * n) (omega arith))
 
-  met-dense : (v y : ℕ) → y ≤ 2 * n → Dense (before v y)
+  met-dense : (v y : ℕ) → y ≤ 2 * n → Dense (before v y) (greatestMet (before v y))
   met-dense v y h = dense-row v (dense-rows v) y h
 
   module _ (v y : ℕ) (hv : v < N) (hy : y < 2 * n) where
-    -- a point met before is at most the greatest met
-    met-before : (u j : ℕ) → ComesBefore u j v y → j < 2 * n → (c u j ≡ absent → ⊥) → c u j ≤ greatestMet (before v y)
-    met-before u j b h m =
-        greatestMet-most (before v y) (c u j)
-        (inr (
-          subst (λ z. StandsIn (before v y) (c u z)) (getD-usual n j h) (earlier-of-cell c (usual n) v y u j b (omega (arith, length-usual n))),
-          m,
-        ))
-
-    -- a point beyond the greatest met is first met here
-    first-here : (c v y ≡ absent → ⊥) → greatestMet (before v y) < c v y → firstMet c N (usual n) (c v y) ≡ some (spot v y)
-    unfolding firstMet
-    first-here m g =
-        ap (spotAt (usual n)) (firstPlace-is (λ u i. eqb (c u (getD (usual n) i 0)) (c v y)) N (length (usual n)) v y here)
-        ∙ ap (λ z. some (spot v z)) (getD-usual n y hy)
-      where
-        here : IsFirst (λ u i. eqb (c u (getD (usual n) i 0)) (c v y)) N (length (usual n)) v y
-        here =
-            record {
-              row-in = hv;
-              index-in = omega (arith, length-usual n);
-              passes = eq-eqb (c v (getD (usual n) y 0)) (c v y) (ap (c v) (getD-usual n y hy));
-              none-before = λ u j k h.
-                  let hj : j < 2 * n = omega (arith, length-usual n) in
-                  ap (λ z. eqb (c u z) (c v y)) (getD-usual n j hj)
-                  ∙ ne-eqb (c u j) (c v y) (λ q. omega (arith, met-before u j k hj (λ e. m (sym q ∙ e)), g));
-            }
-
     new-path : (c v y ≡ absent → ⊥) → greatestMet (before v y) < c v y → isOutside c N (usual n) v y ≡ false
     unfolding isOutside isPathEdge
-    new-path m g = rw (isPathStep-complete c N (usual n) v y (c v y) refl (λ z. omega (arith, g), first-here m g))
+    new-path m g = rw (isPathStep-complete c N (usual n) v y (c v y) refl (λ z. omega (arith, g), first-here c n v y N hv hy m g))
 
     -- a point met before is not first met here
     old-step : (c v y ≡ absent → ⊥) → c v y ≤ greatestMet (before v y) → isPathStep c N (usual n) v y ≡ false
@@ -263,11 +181,11 @@ module _ {n N : ℕ} {t : List ℕ} (S : Sound n N t) where
 
     met-absent : c v y ≡ absent → tallyAt c N (usual n) v y .met ≡ tallyAt c N (usual n) v (suc y) .met
     unfolding tallyAt
-    met-absent e = sym (ap greatestMet (before-more v y hy) ∙ greatest-absent (before v y) (c v y) e)
+    met-absent e = sym (ap greatestMet (before-more c n v y hy) ∙ greatest-absent (before v y) (c v y) e)
 
     met-there : (c v y ≡ absent → ⊥) → max (tallyAt c N (usual n) v y .met) (c v y) ≡ tallyAt c N (usual n) v (suc y) .met
     unfolding tallyAt
-    met-there m = sym (ap greatestMet (before-more v y hy) ∙ greatest-there (before v y) (c v y) m)
+    met-there m = sym (ap greatestMet (before-more c n v y hy) ∙ greatest-more (before v y) (c v y) m)
 
     next-is : tallyAt c N (usual n) v (suc y) ≡ tallyAt c N (usual n) v (y + 1)
     next-is = ap (tallyAt c N (usual n) v) (sym (add-one y))
@@ -332,7 +250,7 @@ module _ {n N : ℕ} {t : List ℕ} (S : Sound n N t) where
   tally-whole v = row ∙ tally-zero (suc v) ∙ ap (tallyBefore c N (usual n)) (sym (add-one v))
     where
       row : tallyAt c N (usual n) v (2 * n) ≡ tallyAt c N (usual n) (suc v) 0
-      row = unfold tallyAt in tally-eq (ap greatestMet (before-row v)) (ap (λ l. length (outsideIn c N (usual n) l)) (spots-row n v))
+      row = unfold tallyAt in sym (tally-eq (ap greatestMet (before-row c n v)) (ap (λ l. length (outsideIn c N (usual n) l)) (spots-row n v)))
 
   pub tally-start : _≡_ {A = Tally} (record { met = 0; edges = 0 }) (tallyBefore (cell n N t) N (usual n) 0)
   unfolding tallyBefore rowsBefore scan greatestMet

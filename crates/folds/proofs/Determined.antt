@@ -18,13 +18,13 @@ use Rattle.theory.specs.Refusals.{Refusal as FirstCause, textRefusal}
 use Rattle.theory.specs.Tables.{absent, Cells, cell}
 use Rattle.theory.specs.Graphs.{startGraph}
 use Rattle.theory.specs.Subgroups.{TableOf}
+use Rattle.theory.proofs.TableLaws.{cell-here}
 use Rattle.theory.proofs.FoldCounts.{folding-exists}
 use Rattle.theory.proofs.Main.{tables-equal-iff-same-subgroup}
 use Rattle.engine.specs.Engine.{State}
 use Rattle.engine.specs.Work.{Holds}
 use Rattle.engine.proofs.HoldLaws.{holds-first, holds-determined}
 use Rattle.tables.specs.Checks.{figuresAs}
-use Rattle.numbering.proofs.StepLaws.{cell-read}
 use Rattle.rooms.specs.declared.Room.{Room}
 use Rattle.lists.specs.declared.StartSize.{StartSize}
 use Rattle.folds.specs.declared.BuildSize.{BuildSize}
@@ -56,9 +56,9 @@ module _ {r : Room} {list table work : List ℕ} (p : Prepared r list table work
 
 -- the cells of the room are those of the table
 room-cells : {n R N : ℕ} {table work table′ work′ : List ℕ}
-    → n ≤ 26 → R * (2 * n) ≤ length table → Cleared n R N table work table′ work′ → cell n R table′ ≡ cell n N table′
+    → R * (2 * n) ≤ length table → Cleared n R N table work table′ work′ → cell n R table′ ≡ cell n N table′
 unfolding cell
-room-cells {n} {R} {N} {table} {work} {table′} {work′} most lent c = fun-ext (λ v. fun-ext (λ y. at v y))
+room-cells {n} {R} {N} {table} {work} {table′} {work′} lent c = fun-ext (λ v. fun-ext (λ y. at v y))
   where
     all : R * (2 * n) ≤ length table′
     all = omega (arith, lent, c .same)
@@ -67,7 +67,7 @@ room-cells {n} {R} {N} {table} {work} {table′} {work′} most lent c = fun-ext
     outside v y h =
         by-cases (decLt v R)
         (λ a. by-cases (decLt y (2 * n))
-        (λ b. sym (cell-read {t = table′} (record { most = most; lent = all; point = a; letter = b })) ∙ c .unused v y h a b)
+        (λ b. sym (cell-here n R table′ v y a b all) ∙ c .unused v y h a b)
         (λ b. rw (lt-ltb v R a, le-ltb y (2 * n) (omega arith))))
         (λ a. rw (le-ltb v R (omega arith)))
 
@@ -88,14 +88,11 @@ module _ {n N M : ℕ} (list : List ℕ) {table work t₁ w₁ t₂ w₂ : List 
   table-determined =
       holds-determined (fine-alphabet n list fine .0) (omega (arith, lent, c .same)) (holds-first n (rowsOf list) t₁) other
     where
-      most : n ≤ 26
-      most = fine-alphabet n list fine .1
-
       first : cell n (rowsOf list) t₁ ≡ cell n N t₁
-      first = room-cells most lent c
+      first = room-cells lent c
 
       second : cell n (rowsOf list) t₂ ≡ cell n M t₂
-      second = room-cells most lent d
+      second = room-cells lent d
 
       other : Holds n (rowsOf list) t₁ (cell n (rowsOf list) t₁) t₂
       other =

@@ -24,7 +24,7 @@ pub fn cell_at(table: &[u32], room: Room, v: u32, y: u32) -> u32
 }
 
 // Puts x into the cell of letter y at point v.
-fn put_at(table: &mut [u32], room: Room, v: u32, y: u32, x: u32)
+pub fn put_at(table: &mut [u32], room: Room, v: u32, y: u32, x: u32)
     requires { ⌜ InTable room (now table) v y ⌝ }
     ensures put { λ _. ⌜ Holds (room .n) (room .rows) (now (table .entry)) (put (cell (room .n) (room .rows) (now (table .entry))) v y x) (now (table .exit)) ⌝ }
 {

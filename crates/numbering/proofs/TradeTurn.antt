@@ -86,11 +86,11 @@ head-first {n} {R} {old} {k} {p} =
 
 module _ {n R : ℕ} {old : List ℕ} {k p y : ℕ} {t : List ℕ} (r : Roomed n R old) (hk : k < R) (hp : p < R) (d : k ≡ p → ⊥)
     (h : Head n R old k p y t) where
-  pub head-asks : y < 2 * n → Tradable n R t k p y
+  pub head-asks : {m : ℕ} → y < 2 * n → Tradable (record { n = n; rows = R; made = m }) t k p y
   head-asks l =
       record {
-        first = inside-then (h .held) (roomed-inside r hk l);
-        second = inside-then (h .held) (roomed-inside r hp l);
+        first = inside-then (roomed-inside r hk l) (h .held);
+        second = inside-then (roomed-inside r hp l) (h .held);
         near = point-as (h .held .cells k y ∙ trading-near (cell n R old) k p y) (cell-point r k y);
         far = point-as (h .held .cells p y ∙ trading-far (cell n R old) k p y d) (cell-point r p y);
       }

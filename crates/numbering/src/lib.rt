@@ -2,25 +2,18 @@
 ghost use mathlib.Core.Path.{_≡_};
 ghost use Prim.Native.Nat.{_*_, _<_, _≤_};
 ghost use lib.ListN.{length, getD};
-ghost use Rattle.theory.specs.Words.{inv};
 ghost use Rattle.theory.specs.Letters.{usual};
 ghost use Rattle.theory.specs.Tables.{cell};
-ghost use Rattle.engine.specs.Cells.{put, transposed, exchanged, mended, tradedAt};
+ghost use Rattle.engine.specs.Cells.{transposed, exchanged, mended, tradedAt};
 ghost use Rattle.engine.specs.Work.{Holds};
 ghost use Rattle.engine.specs.Numbering.{Ready, namedAt, namedTo};
 ghost use Rattle.numbering.specs.Numbered.{Roomed, NumberedIn};
-ghost use Rattle.numbering.specs.Steps.{Inside, IsCell, endsTraded, Tradable, namingOf, Scanned, NamedIn};
+ghost use Rattle.links.specs.Links.{InTable};
+ghost use Rattle.numbering.specs.Steps.{IsCell, endsTraded, Tradable, namingOf, Scanned, NamedIn};
+use rooms::Room;
 
 // The absent mark.
 const ABSENT: u32 = 4294967295;
-
-// The inverse of letter y.
-fn inverse(y: usize) -> usize
-    requires { ⌜ y < 52 ⌝ }
-    ensures inverse { λ r. ⌜ r ≡ inv y ⌝ }
-{
-    y + 1 - 2 * (y % 2)
-}
 
 // The letter that is scanned at step i of a row.
 fn letter_at(n: usize, i: usize) -> usize
@@ -43,28 +36,11 @@ fn renamed(v: u32, k: u32, p: u32) -> u32
     v
 }
 
-// The cell of letter y at point v.
-fn cell_at(table: &[u32], n: usize, room: usize, v: usize, y: usize) -> u32
-    requires { ⌜ Inside n room (now table) v y ⌝ }
-    ensures cell { λ r. ⌜ r ≡ cell n room (now (table .entry)) v y ⌝ }
-{
-    let at = v * (2 * n) + y;
-    table[at]
-}
-
-// Puts x into the cell of letter y at point v.
-fn put_at(table: &mut [u32], n: usize, room: usize, v: usize, y: usize, x: u32)
-    requires { ⌜ Inside n room (now table) v y ⌝ }
-    ensures put { λ _. ⌜ Holds n room (now (table .entry)) (put (cell n room (now (table .entry))) v y x) (now (table .exit)) ⌝ }
-{
-    rooms::put(table, 2 * n, v, y, x);
-}
-
 // Where q is a point other than k and p, its cell back by letter y gets x.
-fn mend(table: &mut [u32], n: usize, room: usize, k: u32, p: u32, q: u32, y: usize, x: u32)
-    requires inside { ⌜ Inside n room (now table) k y ⌝ }
-    requires { ⌜ IsCell room q ⌝ }
-    ensures mended { λ _. ⌜ Holds n room (now (table .entry)) (mended (cell n room (now (table .entry))) k p q y x) (now (table .exit)) ⌝ }
+fn mend(table: &mut [u32], room: Room, k: u32, p: u32, q: u32, y: u32, x: u32)
+    requires inside { ⌜ InTable room (now table) k y ⌝ }
+    requires { ⌜ IsCell (room .rows) q ⌝ }
+    ensures mended { λ _. ⌜ Holds (room .n) (room .rows) (now (table .entry)) (mended (cell (room .n) (room .rows) (now (table .entry))) k p q y x) (now (table .exit)) ⌝ }
 {
     if q == ABSENT {
         return;
@@ -75,28 +51,28 @@ fn mend(table: &mut [u32], n: usize, room: usize, k: u32, p: u32, q: u32, y: usi
     if q == p {
         return;
     }
-    put_at(table, n, room, q as usize, inverse(y), x);
+    links::put_at(table, room, q, letters::inverse(y), x);
 }
 
 // Rows k and p trade their cells of letter y, which hold a and b, under the new names.
-fn trade_ends(table: &mut [u32], n: usize, room: usize, k: u32, p: u32, y: usize, a: u32, b: u32)
-    requires { ⌜ Inside n room (now table) k y × Inside n room (now table) p y ⌝ }
-    ensures traded { λ _. ⌜ Holds n room (now (table .entry)) (endsTraded (cell n room (now (table .entry))) k p y a b) (now (table .exit)) ⌝ }
+fn trade_ends(table: &mut [u32], room: Room, k: u32, p: u32, y: u32, a: u32, b: u32)
+    requires { ⌜ InTable room (now table) k y × InTable room (now table) p y ⌝ }
+    ensures traded { λ _. ⌜ Holds (room .n) (room .rows) (now (table .entry)) (endsTraded (cell (room .n) (room .rows) (now (table .entry))) k p y a b) (now (table .exit)) ⌝ }
 {
-    put_at(table, n, room, k as usize, y, renamed(b, k, p));
-    put_at(table, n, room, p as usize, y, renamed(a, k, p));
+    links::put_at(table, room, k, y, renamed(b, k, p));
+    links::put_at(table, room, p, y, renamed(a, k, p));
 }
 
 // One turn of an exchange: rows k and p trade their cells of letter y, and the far ends are mended.
-fn trade(table: &mut [u32], n: usize, room: usize, k: u32, p: u32, y: usize)
-    requires { ⌜ Tradable n room (now table) k p y ⌝ }
-    ensures traded { λ _. ⌜ Holds n room (now (table .entry)) (tradedAt (cell n room (now (table .entry))) k p y) (now (table .exit)) ⌝ }
+fn trade(table: &mut [u32], room: Room, k: u32, p: u32, y: u32)
+    requires { ⌜ Tradable room (now table) k p y ⌝ }
+    ensures traded { λ _. ⌜ Holds (room .n) (room .rows) (now (table .entry)) (tradedAt (cell (room .n) (room .rows) (now (table .entry))) k p y) (now (table .exit)) ⌝ }
 {
-    let a = cell_at(table, n, room, k as usize, y);
-    let b = cell_at(table, n, room, p as usize, y);
-    trade_ends(table, n, room, k, p, y, a, b);
-    mend(table, n, room, k, p, a, y, p);
-    mend(table, n, room, k, p, b, y, k);
+    let a = links::cell_at(table, room, k, y);
+    let b = links::cell_at(table, room, p, y);
+    trade_ends(table, room, k, p, y, a, b);
+    mend(table, room, k, p, a, y, p);
+    mend(table, room, k, p, b, y, k);
 }
 
 // Exchanges the names k and p in a table of n generators with room for `room` rows.
@@ -111,7 +87,17 @@ pub fn exchange(table: &mut [u32], n: usize, room: usize, k: u32, p: u32)
     let w = 2 * n;
     let mut y: usize = 0;
     while y < w {
-        trade(table, n, room, k, p, y);
+        trade(
+            table,
+            Room {
+                n,
+                rows: room,
+                made: room,
+            },
+            k,
+            p,
+            y as u32,
+        );
         y += 1;
     }
 }
@@ -122,7 +108,16 @@ fn number_cell(table: &mut [u32], n: usize, room: usize, v: usize, y: usize, met
     requires { ⌜ (v < met) × (y < 2 * n) ⌝ }
     ensures named { λ r. ⌜ NamedIn n room (now (table .entry)) (namedAt (namingOf n room (now (table .entry)) met) v y) r (now (table .exit)) ⌝ }
 {
-    let u = cell_at(table, n, room, v, y);
+    let u = links::cell_at(
+        table,
+        Room {
+            n,
+            rows: room,
+            made: met,
+        },
+        v as u32,
+        y as u32,
+    );
     if u == ABSENT {
         return met;
     }

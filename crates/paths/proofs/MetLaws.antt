@@ -4,26 +4,26 @@
 --   met-before, row-met : a point met before is at most the greatest met; so is the point of the row in hand
 --   first-here, next-here : a point beyond the greatest met is met first where it is met, and it is the next one
 -- Assumes nothing.
-use mathlib.Core.Path.{_≡_, refl, sym, _∙_, ap, subst}
-use mathlib.Core.Logic.{inl, inr, by-cases}
+use mathlib.Core.Path.{_≡_, refl, sym, _∙_, ap}
+use mathlib.Core.Logic.{inl, by-cases}
 use mathlib.Core.Bool.{true, false}
 use mathlib.Core.Option.{some}
-use mathlib.Core.List.{List, [], _∷_, _++_}
+use mathlib.Core.List.{List, [], _∷_}
 use Prim.Native.Nat.{ℕ, suc, _+_, _*_, _≤_, _<_, max}
 use native.Mathlib.Decide.{ℕ-discrete}
 use native.Mathlib.Omega.{arith}
-use lib.Dec.{eqb}
-use lib.ListN.{length, getD}
+use lib.ListN.{length}
 use borrow.Author.Tests.{eq-eqb, ne-eqb}
-use Rattle.theory.specs.Letters.{usual, StandsIn}
+use Rattle.theory.specs.Letters.{usual}
 use Rattle.theory.specs.Tables.{absent, Cells, cell}
 use Rattle.theory.specs.Canonical.{earlier, greatestMet}
-use Rattle.theory.specs.Basis.{spotAt, firstMet}
+use Rattle.theory.specs.Basis.{firstMet}
 use Rattle.theory.proofs.TableLaws.{length-usual, getD-usual, cell-bounded}
-use Rattle.theory.proofs.PlaceLaws.{ComesBefore, IsFirst, firstPlace-is}
-use Rattle.theory.proofs.RowLaws.{earlier-suc, earlier-row, earlier-start, earlier-of-cell, greatestMet-most, greatestMet-append}
+use Rattle.theory.proofs.PlaceLaws.{ComesBefore}
+use Rattle.theory.proofs.RowLaws.{earlier-row, earlier-start, greatestMet-append}
 use Rattle.theory.proofs.PathLaws.{Setting, usual-setting, spot, met}
 use Rattle.tables.proofs.CellTurn.{Sizes, sizes}
+use Rattle.tables.proofs.ScanLaws.{before-more, met-before as seen-before, first-here as met-here}
 use Rattle.paths.specs.Paths.{Ready}
 use Rattle.paths.specs.Notes.{isNew}
 use Rattle.paths.proofs.NoteLaws.{new-beyond, new-not}
@@ -59,17 +59,7 @@ module _ {n N : ℕ} {t : List ℕ} {room : ℕ} (R : Ready n N t room) where
   module _ {v y g : ℕ} (H : Met n N t v y g) where
     -- a point met before its place is at most the greatest met
     pub met-before : (u j : ℕ) → ComesBefore u j v y → j < 2 * n → (c u j ≡ absent → ⊥) → c u j ≤ g
-    met-before u j b h m =
-        omega (
-          arith,
-          H .greatest,
-          greatestMet-most (earlier c (usual n) v y) (c u j)
-              (inr (
-                subst (λ z. StandsIn (earlier c (usual n) v y) (c u z)) (getD-usual n j h)
-                    (earlier-of-cell c (usual n) v y u j b (omega (arith, length-usual n))),
-                m,
-              )),
-        )
+    met-before u j b h m = omega (arith, H .greatest, seen-before c n v y u j b h m)
 
     -- a point below the row in hand, and the row's own, are met
     pub row-met : (x : ℕ) → x ≤ v → x < N → x ≤ g
@@ -81,14 +71,9 @@ module _ {n N : ℕ} {t : List ℕ} {room : ℕ} (R : Ready n N t room) where
         omega (arith, m .3 .0, met-before (m .0 .point) (m .0 .letter) (inl (omega (arith, m .2))) i (λ e. m .3 .1 (sym (m .3 .0) ∙ e))))
 
     module _ (hv : v < N) (hy : y < 2 * n) where
-      before-more : earlier c (usual n) v (suc y) ≡ earlier c (usual n) v y ++ (c v y ∷ [])
-      before-more =
-          earlier-suc c (usual n) v y (omega (arith, length-usual n))
-          ∙ ap (λ z. earlier c (usual n) v y ++ (c v z ∷ [])) (getD-usual n y hy)
-
       greatest-more : greatestMet (earlier c (usual n) v (suc y)) ≡ max g (greatestMet (c v y ∷ []))
       greatest-more =
-          ap greatestMet before-more
+          ap greatestMet (before-more c n v y hy)
           ∙ greatestMet-append (earlier c (usual n) v y) (c v y ∷ [])
           ∙ ap (λ k. max k (greatestMet (c v y ∷ []))) (sym (H .greatest))
 
@@ -105,23 +90,8 @@ module _ {n N : ℕ} {t : List ℕ} {room : ℕ} (R : Ready n N t room) where
 
       -- a new point is met first here
       pub first-here : isNew g (c v y) ≡ true → firstMet c N (usual n) (c v y) ≡ some (spot v y)
-      unfolding firstMet
       first-here e =
-          ap (spotAt (usual n)) (firstPlace-is (λ u i. eqb (c u (getD (usual n) i 0)) (c v y)) N (length (usual n)) v y here)
-          ∙ ap (λ z. some (spot v z)) (getD-usual n y hy)
-        where
-          here : IsFirst (λ u i. eqb (c u (getD (usual n) i 0)) (c v y)) N (length (usual n)) v y
-          here =
-              let b = new-beyond g (c v y) e in
-              record {
-                row-in = hv;
-                index-in = omega (arith, length-usual n);
-                passes = eq-eqb (c v (getD (usual n) y 0)) (c v y) (ap (c v) (getD-usual n y hy));
-                none-before = λ u j k h.
-                    let hj : j < 2 * n = omega (arith, length-usual n) in
-                    ap (λ z. eqb (c u z) (c v y)) (getD-usual n j hj)
-                    ∙ ne-eqb (c u j) (c v y) (λ q. omega (arith, met-before u j k hj (λ m. b .0 (sym q ∙ m)), b .1));
-              }
+          let b = new-beyond g (c v y) e in met-here c n v y N hv hy (b .0) (omega (arith, H .greatest, b .1))
 
       -- it is the next one
       pub next-here : isNew g (c v y) ≡ true → c v y ≤ suc g

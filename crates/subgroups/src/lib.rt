@@ -1,6 +1,5 @@
 // The library that C and Rust programs link: each function answers a struct of plain numbers, laid out as in C.
 ghost use mathlib.Core.Path.{_≡_};
-ghost use Rattle.lists.specs.Shorter.{isGood};
 ghost use Rattle.subgroups.specs.Replies.{finiteOf, indexOf, madeReply, replyOf, countedReply, checkedReply, answerReply, equalityReply, judgedReply, expressedReply, basisReply, savedReply, foundReply, loadedReply};
 ghost use Rattle.subgroups.specs.Outcomes.{FoldReplied, AskReplied, CheckReplied, MemberReplied, EqualReplied, NormalReplied, ExpressReplied, BasisReplied, SaveTableReplied, SaveListReplied, LoadReplied, ShorterReplied};
 use bases::BasisAnswer;
@@ -8,7 +7,6 @@ use equals::Equality;
 use expressions::Expressed;
 use folds::FoldFigures;
 use folds::Folded;
-use lists::Scanned;
 use loads::Found;
 use loads::Loaded;
 use members::Answer;
@@ -500,16 +498,6 @@ pub struct PartReply {
     pub bytes: u64,
 }
 
-// No refusal meets the list.
-fn is_good(n: u64, list: &[u8]) -> bool
-    ensures good { λ r. ⌜ r ≡ isGood n (now (list .entry)) ⌝ }
-{
-    match lists::scan(n, list, true) {
-        Scanned::Fine => true,
-        Scanned::Refused(_) => false,
-    }
-}
-
 // Says which of two lists is the one that `lists::shorter` hands back: a slice does not cross.
 #[no_mangle]
 pub extern "C" fn subgroups_shorter(n: u64, first: &[u8], second: &[u8]) -> PartReply
@@ -523,8 +511,8 @@ pub extern "C" fn subgroups_shorter(n: u64, first: &[u8], second: &[u8]) -> Part
         which: 2,
         bytes: second.len() as u64,
     };
-    if is_good(n, first) {
-        if is_good(n, second) {
+    if lists::is_good(n, first) {
+        if lists::is_good(n, second) {
             if lists::letters_in(first) <= lists::letters_in(second) {
                 return ours;
             }
@@ -532,7 +520,7 @@ pub extern "C" fn subgroups_shorter(n: u64, first: &[u8], second: &[u8]) -> Part
         }
         return ours;
     }
-    if is_good(n, second) {
+    if lists::is_good(n, second) {
         return other;
     }
     PartReply { which: 0, bytes: 0 }

@@ -8,15 +8,14 @@ use mathlib.Core.Path.{_≡_, refl, sym, _∙_, ap, subst}
 use mathlib.Core.Logic.{inl, inr, ⊎-elim, by-cases}
 use mathlib.Core.Bool.{Bool, true, false, cond, not, _&&_, _||_}
 use mathlib.Core.Option.{none, some}
-use mathlib.Core.List.{List, [], _∷_, _++_, append-assoc, append-nil}
+use mathlib.Core.List.{List, [], _∷_, _++_, append-nil}
 use Prim.Native.Nat.{ℕ, suc, _+_, _*_, _≤_, _<_, max}
 use native.Mathlib.Nat.{suc-mul}
 use native.Mathlib.Decide.{ℕ-discrete, decLt}
 use native.Mathlib.Numerals.{add-one}
 use native.Mathlib.Omega.{arith}
 use lib.Dec.{eqb, ltb}
-use lib.ListN.{length, getD, take, length-append, length-map, List·getD-append, List·getD-map}
-use lib.Seq.{getD-append-add, take-suc, take-all}
+use lib.ListN.{length, getD, take}
 use borrow.Author.Tests.{eq-eqb, ne-eqb, lt-ltb, le-ltb}
 use Rattle.theory.specs.Letters.{usual, StandsIn}
 use Rattle.theory.specs.Graphs.{isLower}
@@ -35,124 +34,56 @@ use Rattle.theory.specs.Canonical.{
   positionOf,
   faultyCell,
 }
-use Rattle.theory.specs.Basis.{Spot, spotsOf, scan, those, isEdge, edgesOf, all, isFull}
+use Rattle.theory.specs.Basis.{Spot, scan, those, isEdge, edgesOf, all, isFull}
 use Rattle.theory.proofs.WordLaws.{byTest}
 use Rattle.theory.proofs.TableLaws.{length-usual, getD-usual}
 use Rattle.theory.proofs.PlaceLaws.{passes-fails, fails, ComesBefore, IsFirst, firstPlace-is, firstPlace-is-none}
 use Rattle.theory.proofs.RowLaws.{
   isIn-sound,
   isIn-complete,
-  earlier-suc,
-  earlier-row,
   earlier-start,
   Met,
   greatestMet-most,
-  greatestMet-append,
 }
+use Rattle.theory.proofs.PathLaws.{spot}
 use Rattle.tables.specs.Walks.{walkedFor, walkedAs}
 use Rattle.tables.specs.Cells.{Inside, isThin, rowBroken, brokenAt, visitedAs}
 use Rattle.tables.specs.declared.Seen.{Seen}
 use Rattle.tables.specs.declared.Walked.the-variants.{Faulty, Sound}
 use Rattle.tables.proofs.CellTurn.{inside-sizes, place-in, cell-outside, cell-beyond}
+use Rattle.tables.proofs.ScanLaws.{
+  and-none,
+  those-more,
+  spotsTo,
+  spots-more,
+  spots-row,
+  dense-more,
+  dense-absent,
+  greatest-more,
+  greatest-absent,
+  before-more,
+  before-row,
+}
 
 -- ── Lists of spots ──
-
--- the spot at v and y
-abbrev spot : ℕ → ℕ → Spot
-spot v y = record { point = v; letter = y }
 
 -- the cell of a spot is not absent
 abbrev isThere : Cells → Spot → Bool
 isThere c s = not (eqb (c (s .point) (s .letter)) absent)
-
--- the spots before place y of row v
-abbrev spotsTo : List ℕ → ℕ → ℕ → List Spot
-spotsTo ys v y = scan v ys ++ take y (spotsOf ys v)
-
--- one spot more
-those-more : (f : Spot → Bool) (l : List Spot) (s : Spot)
-    → length (those f (l ++ (s ∷ []))) ≡ length (those f l) + cond (f s) 1 0
-unfolding those
-those-more f [] s = byTest (f s) (λ e. rw e) (λ e. rw e)
-those-more f (a ∷ l) s =
-    let r = those-more f l s in byTest (f a) (λ e. rw e (omega arith)) (λ e. rw e r)
 
 all-more : (f : Spot → Bool) (l : List Spot) (s : Spot) → all f (l ++ (s ∷ [])) ≡ (all f l && f s)
 unfolding all
 all-more f [] s = byTest (f s) (λ e. rw e) (λ e. rw e)
 all-more f (a ∷ l) s = let r = all-more f l s in byTest (f a) (λ e. rw e r) (λ e. rw e)
 
-length-spots : (ys : List ℕ) (v : ℕ) → length (spotsOf ys v) ≡ length ys
-unfolding spotsOf
-length-spots ys v = length-map ys (spot v)
-
-module _ (n v : ℕ) where
-  spots-more : (y : ℕ) → y < 2 * n → spotsTo (usual n) v (suc y) ≡ spotsTo (usual n) v y ++ (spot v y ∷ [])
-  unfolding spotsOf
-  spots-more y h =
-      ap (λ l. scan v (usual n) ++ l) (taken ∙ ap (λ s. take y (spotsOf (usual n) v) ++ (s ∷ [])) there)
-      ∙ sym (append-assoc (scan v (usual n)) (take y (spotsOf (usual n) v)) (spot v y ∷ []))
-    where
-      taken : take (suc y) (spotsOf (usual n) v) ≡ take y (spotsOf (usual n) v) ++ (getD (spotsOf (usual n) v) y (spot v 0) ∷ [])
-      taken = take-suc (spotsOf (usual n) v) y (spot v 0) (omega (arith, length-spots (usual n) v, length-usual n))
-
-      there : getD (spotsOf (usual n) v) y (spot v 0) ≡ spot v y
-      there = List·getD-map (spot v) (usual n) y 0 ∙ ap (spot v) (getD-usual n y h)
-
-  spots-row : spotsTo (usual n) (suc v) 0 ≡ spotsTo (usual n) v (2 * n)
-  unfolding scan
-  spots-row =
-      append-nil (scan v (usual n) ++ spotsOf (usual n) v)
-      ∙ ap (λ l. scan v (usual n) ++ l) (sym (take-all (2 * n) (spotsOf (usual n) v) (omega (arith, length-spots (usual n) v, length-usual n))))
-
 spots-all : (ys : List ℕ) (N : ℕ) → spotsTo ys N 0 ≡ scan N ys
 spots-all ys N = append-nil (scan N ys)
-
--- ── Points met ──
-
-stands-left : (l : List ℕ) (a x : ℕ) → StandsIn l x → StandsIn (l ++ (a ∷ [])) x
-stands-left l a x s = (s .0, omega (arith, length-append l (a ∷ [])), List·getD-append l (a ∷ []) 0 (s .0) (s .1) ∙ s .2)
-
-stands-last : (l : List ℕ) (a : ℕ) → StandsIn (l ++ (a ∷ [])) a
-stands-last l a = (length l + 0, omega (arith, length-append l (a ∷ [])), getD-append-add l (a ∷ []) 0 0)
-
--- every point up to g is met in l
-abbrev Dense : List ℕ → ℕ → Type 0
-Dense l g = (x : ℕ) → x ≤ g → Met l x
-
--- a cell more, of at most the next point
-dense-more : (l : List ℕ) (g a : ℕ) → Dense l g → (a ≡ absent → ⊥) → a ≤ suc g → Dense (l ++ (a ∷ [])) (max g a)
-dense-more l g a d m h x k =
-    by-cases (decLt g x) (λ b. let e : a ≡ x = omega arith in inr (subst (StandsIn (l ++ (a ∷ []))) e (stands-last l a), λ q. m (e ∙ q)))
-    (λ b. ⊎-elim inl (λ s. inr (stands-left l a x (s .0), s .1)) (d x (omega arith)))
-
--- an absent cell more
-dense-absent : (l : List ℕ) (g a : ℕ) → Dense l g → Dense (l ++ (a ∷ [])) g
-dense-absent l g a d x k = ⊎-elim inl (λ s. inr (stands-left l a x (s .0), s .1)) (d x k)
-
-greatest-more : (l : List ℕ) (a : ℕ) → (a ≡ absent → ⊥) → greatestMet (l ++ (a ∷ [])) ≡ max (greatestMet l) a
-unfolding greatestMet
-greatest-more l a m = greatestMet-append l (a ∷ []) ∙ ap (max (greatestMet l)) one
-  where
-    one : greatestMet (a ∷ []) ≡ a
-    one = rw (ne-eqb a absent m) (omega arith)
-
-greatest-absent : (l : List ℕ) (a : ℕ) → a ≡ absent → greatestMet (l ++ (a ∷ [])) ≡ greatestMet l
-unfolding greatestMet
-greatest-absent l a m = greatestMet-append l (a ∷ []) ∙ ap (max (greatestMet l)) one ∙ omega arith
-  where
-    one : greatestMet (a ∷ []) ≡ 0
-    one = rw (eq-eqb a absent m)
 
 -- ── Tests ──
 
 or-right : (a b : Bool) → (a || b) ≡ false → b ≡ false
 or-right true b e = passes-fails refl e
 or-right false b e = e
-
-and-none : (b : Bool) → (b && false) ≡ false
-and-none true = refl
-and-none false = refl
 
 and-some : (b : Bool) → (b && true) ≡ b
 and-some true = refl
@@ -275,12 +206,6 @@ module _ {n N : ℕ} {t : List ℕ} {v y : ℕ} {seen : Seen} (H : Head n N t v 
       (λ k. passes-fails (sym (cell-outside n N t v y (seen .met) refl m (omega arith))) (cell-kept e)))
       (λ h. omega arith)
 
-  -- one cell more has come before
-  before-more : earlier (cell n N t) (usual n) v (suc y) ≡ earlier (cell n N t) (usual n) v y ++ (cell n N t v y ∷ [])
-  before-more =
-      earlier-suc (cell n N t) (usual n) v y (omega (arith, I .letter, length-usual n))
-      ∙ ap (λ z. earlier (cell n N t) (usual n) v y ++ (cell n N t v z ∷ [])) (getD-usual n y (I .letter))
-
   edges-more : seen .edges + cond (isLower y && not (eqb (cell n N t v y) absent)) 1 0 ≡ length (those (isEdge (cell n N t)) (spotsTo (usual n) v (suc y)))
   edges-more =
       omega (
@@ -304,8 +229,8 @@ module _ {n N : ℕ} {t : List ℕ} {v y : ℕ} {seen : Seen} (H : Head n N t v 
         point = H .point;
         letter = omega (arith, I .letter);
         clear = clear-more refl e;
-        met = H .met ∙ sym (ap greatestMet before-more ∙ greatest-absent (earlier (cell n N t) (usual n) v y) (cell n N t v y) m);
-        dense = λ x h. subst (λ l. Met l x) (sym before-more) (dense-absent (earlier (cell n N t) (usual n) v y) (seen .met) (cell n N t v y) (H .dense) x h);
+        met = H .met ∙ sym (ap greatestMet (before-more (cell n N t) n v y (I .letter)) ∙ greatest-absent (earlier (cell n N t) (usual n) v y) (cell n N t v y) m);
+        dense = λ x h. subst (λ l. Met l x) (sym (before-more (cell n N t) n v y (I .letter))) (dense-absent (earlier (cell n N t) (usual n) v y) (seen .met) (cell n N t v y) (H .dense) x h);
         edges = omega (arith, edges-more, ap {B = ℕ} (λ b. cond (isLower y && not b) 1 0) q, ap {B = ℕ} (λ b. cond b 1 0) (and-none (isLower y)));
         full = sym (and-none (seen .full)) ∙ sym (ap (λ b. seen .full && not b) q) ∙ full-more;
         few = omega (arith, H .few);
@@ -319,8 +244,8 @@ module _ {n N : ℕ} {t : List ℕ} {v y : ℕ} {seen : Seen} (H : Head n N t v 
         point = H .point;
         letter = omega (arith, I .letter);
         clear = clear-more refl e;
-        met = ap (λ g. max g (cell n N t v y)) (H .met) ∙ sym (ap greatestMet before-more ∙ greatest-more (earlier (cell n N t) (usual n) v y) (cell n N t v y) m);
-        dense = λ x h. subst (λ l. Met l x) (sym before-more) (dense-more (earlier (cell n N t) (usual n) v y) (seen .met) (cell n N t v y) (H .dense) m (next-point e m) x h);
+        met = ap (λ g. max g (cell n N t v y)) (H .met) ∙ sym (ap greatestMet (before-more (cell n N t) n v y (I .letter)) ∙ greatest-more (earlier (cell n N t) (usual n) v y) (cell n N t v y) m);
+        dense = λ x h. subst (λ l. Met l x) (sym (before-more (cell n N t) n v y (I .letter))) (dense-more (earlier (cell n N t) (usual n) v y) (seen .met) (cell n N t v y) (H .dense) m (next-point e m) x h);
         edges = omega (arith, edges-more, ap {B = ℕ} (λ b. cond (isLower y && not b) 1 0) q, ap {B = ℕ} (λ b. cond b 1 0) (and-some (isLower y)));
         full = sym (and-some (seen .full)) ∙ sym (ap (λ b. seen .full && not b) q) ∙ full-more;
         few = omega (arith, H .few, at-most-one (isLower y));
@@ -344,9 +269,6 @@ module _ {n N : ℕ} {t : List ℕ} {seen : Seen} where
   pub head-row : {v y : ℕ} → Head n N t v y seen → v < N → 2 * n ≤ y → Head n N t (v + 1) 0 seen
   head-row {v} {y} H h k = rw (add-one v) (go (omega (arith, H .letter)))
     where
-      row : earlier (cell n N t) (usual n) (suc v) 0 ≡ earlier (cell n N t) (usual n) v (2 * n)
-      row = earlier-row (cell n N t) (usual n) v ∙ ap (earlier (cell n N t) (usual n) v) (length-usual n)
-
       go : y ≡ 2 * n → Head n N t (suc v) 0 seen
       go e =
           let K = subst (λ z. Head n N t v z seen) e H in
@@ -354,8 +276,8 @@ module _ {n N : ℕ} {t : List ℕ} {seen : Seen} where
             point = omega arith;
             letter = omega arith;
             clear = λ u j b l. ⊎-elim (λ a. by-cases (ℕ-discrete u v) (λ z. K .clear u j (inr (z, omega (arith, length-usual n))) l) (λ z. K .clear u j (inl (omega arith)) l)) (λ a. absurd (omega (arith, a .1))) b;
-            met = K .met ∙ sym (ap greatestMet row);
-            dense = λ x l. subst (λ m. Met m x) (sym row) (K .dense x l);
+            met = K .met ∙ sym (ap greatestMet (before-row (cell n N t) n v));
+            dense = λ x l. subst (λ m. Met m x) (sym (before-row (cell n N t) n v)) (K .dense x l);
             edges = K .edges ∙ sym (ap (λ l. length (those (isEdge (cell n N t)) l)) (spots-row n v));
             full = K .full ∙ sym (ap (all (isThere (cell n N t))) (spots-row n v));
             few = omega (arith, K .few, suc-mul v (2 * n));

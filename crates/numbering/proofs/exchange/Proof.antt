@@ -25,6 +25,9 @@ mul-w c = search needs
 loop-holds : tie.Need-loop-holds Inv-loop μ-loop
 loop-holds c = head-first
 
+cast-trade : tie.Need-cast-trade Inv-loop μ-loop
+cast-trade c = search needs
+
 trade-requires : tie.Need-trade-requires Inv-loop μ-loop
 trade-requires c κs =
     let head = c .before .before in
@@ -63,6 +66,7 @@ exchange-spec =
     returns
     mul-w
     loop-holds
+    cast-trade
     trade-requires
     add-y
     loop-less

@@ -6,6 +6,12 @@ use Rattle.numbering.proofs.NumberTurn.{cell-none, cell-met, cell-asks,
 use Rattle.numbering.proofs.number_cell.Statement.{statement}
 use Rattle.numbering.proofs.number_cell.Tie as tie
 
+cast-cell-at : tie.Need-cast-cell-at
+cast-cell-at c = search needs
+
+cast-cell-at-2 : tie.Need-cast-cell-at-2
+cast-cell-at-2 c = search needs
+
 cell-at-requires : tie.Need-cell-at-requires
 cell-at-requires c κs = search needs
 
@@ -53,6 +59,8 @@ pub number-cell-spec : {M : Type 1} → statement M
 number-cell-spec =
     tie.close
     (tie.spec
+    cast-cell-at
+    cast-cell-at-2
     cell-at-requires
     same-length
     returns

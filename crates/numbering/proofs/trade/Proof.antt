@@ -21,7 +21,7 @@ mend-requires c κs =
     let ends = c .before .before .before in
     let first = ends .before .before .before .before in
     let s = first .before .before .before in
-    (inside-then (ends .trade-ends .ensures) (s .pre .first), point-as (first .cell-at .ensures) (s .pre .near))
+    (inside-then (s .pre .first) (ends .trade-ends .ensures), point-as (first .cell-at .ensures) (s .pre .near))
 
 mend-requires-2 : tie.Need-mend-requires-2
 mend-requires-2 c κs =
@@ -29,7 +29,7 @@ mend-requires-2 c κs =
     let ends = near .before .before .before .before in
     let second = ends .before .before in
     let s = second .before .before .before .before .before in (
-      inside-then (near .mend .ensures) (inside-then (ends .trade-ends .ensures) (s .pre .first)),
+      inside-then (inside-then (s .pre .first) (ends .trade-ends .ensures)) (near .mend .ensures),
       point-as (second .cell-at2 .ensures) (s .pre .far),
     )
 
