@@ -8,3 +8,5 @@ pub mod Steps
 pub mod TableSteps
 pub mod ListSteps
 pub mod Refusals
+pub mod Loads
+pub mod Refuted
