@@ -52,10 +52,9 @@ pub fn save_list(n: u64, list: &[u8], out: &mut [u8]) -> WrittenReply {
         let mut at = [2, n, count].into_iter().fold(0, |at, number| write_number(number, out, at));
         for word in words(list) {
             at = write_number(word.len() as u64, out, at);
-            for y in word.iter().filter_map(|&byte| letter(byte)) {
-                out[at] = y as u8;
-                at += 1;
-            }
+            let letters = &mut out[at..at + word.len()];
+            letters.iter_mut().zip(word.iter().filter_map(|&byte| letter(byte))).for_each(|(to, y)| *to = y as u8);
+            at += word.len();
         }
         Ok((0, bytes))
     };

@@ -214,30 +214,24 @@ pub fn basis(n: u64, points: u64, table: &[u32], work: &mut [u32], out: &mut [u8
     wrote(answer())
 }
 
-/// Carries the cell of letter y at v over to the image of v, which `image` holds for every point met; says whether
-/// it can be carried.
-fn carry(lent: &Lent, image: &mut [u32], v: usize, y: usize, met: &mut usize) -> bool {
-    let x = lent.row(v)[y];
-    if x == ABSENT {
-        return true;
-    }
-    let to = lent.row(image[v] as usize)[y];
-    if to == ABSENT {
-        return false;
-    }
-    let x = x as usize;
-    if x > *met {
-        *met = x;
-        image[x] = to;
-    }
-    image[x] == to
-}
-
-/// Says whether every basis word leads from p back to p: all cells can be carried over from the base to p.
+/// Says whether every basis word leads from p back to p: all cells can be carried over from the base to p, so that
+/// each point has one image.
 fn all_lead_back(lent: &Lent, image: &mut [u32], p: u32) -> bool {
     image[0] = p;
     let mut met = 0;
-    (0..lent.points).all(|v| (0..lent.width).all(|y| carry(lent, image, v, y, &mut met)))
+    for v in 0..lent.points {
+        let (row, over) = (lent.row(v), lent.row(image[v] as usize));
+        for (&x, &to) in row.iter().zip(over).filter(|(&x, _)| x != ABSENT) {
+            let x = x as usize;
+            if to == ABSENT || x <= met && image[x] != to {
+                return false;
+            }
+            if x > met {
+                (met, image[x]) = (x, to);
+            }
+        }
+    }
+    true
 }
 
 /// Says whether the subgroup of a lent table is normal.
