@@ -7,3 +7,4 @@ pub mod QueryLaws
 pub mod ParseLaws
 pub mod Determined
 pub mod Refuted
+pub mod Queries

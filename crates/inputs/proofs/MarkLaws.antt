@@ -103,7 +103,7 @@ unfolding isBadInput afterRun
 bad-plus [] = refl
 bad-plus (l ∷ ls) = byTest (isMarked plusMark l) (λ t. rw t (bad-plus ls)) (λ t. rw (t, t))
 
-two-marks : (l : List ℕ) → isMarked queryMark l ≡ true → isMarked plusMark l ≡ false
+pub two-marks : (l : List ℕ) → isMarked queryMark l ≡ true → isMarked plusMark l ≡ false
 unfolding isMarked
 two-marks [] e = refl
 two-marks (b ∷ bs) e = ne-eqb b plusMark (λ z. absurd (omega (arith, eqb-true b queryMark e)))

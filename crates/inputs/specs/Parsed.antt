@@ -9,6 +9,7 @@
 --   bytesAfter r input    == the bytes afterwards: the list in front of an accepted input, else as they were
 --   ParsedInto            <-> both
 --   queryAt input at      == the line at `at` as a query: where its text starts, its bytes, and where the next line starts
+--   walkedFrom d input at == the texts that the walk from `at` on gives, d lines of it
 -- Assumes nothing.
 use mathlib.Core.Path.{_≡_}
 use mathlib.Core.Bool.{false, cond, _&&_}
@@ -78,3 +79,12 @@ queryAs at (l ∷ ls) = Asked (at + 1) (length (withoutEnd (drop 1 l))) (at + le
 
 unfoldable pub queryAt : List ℕ → ℕ → Query
 queryAt input at = queryAs at (linesOf (drop at input))
+
+-- the text of a query, and then those of the lines behind it
+abbrev pub walkedOn : List ℕ → (ℕ → List (List ℕ)) → Query → List (List ℕ)
+walkedOn input more Ended = []
+walkedOn input more (Asked start size next) = take size (drop start input) ∷ more next
+
+unfoldable pub walkedFrom : ℕ → List ℕ → ℕ → List (List ℕ)
+walkedFrom zero input at = []
+walkedFrom (suc d) input at = walkedOn input (walkedFrom d input) (queryAt input at)
