@@ -27,7 +27,7 @@ use Rattle.theory.proofs.PathLaws.{Setting, spot, Step, leads-in, step-leads, p
 use Rattle.theory.proofs.BasisLaws.{basisWord-plain, length-inverse}
 use Rattle.tables.specs.Cells.{Inside}
 use Rattle.tables.proofs.CellTurn.{Sizes}
-use Rattle.paths.proofs.PathTurn.{ready-sizes, ready-setting}
+use Rattle.paths.proofs.MetLaws.{ready-sizes, ready-setting}
 use Rattle.bases.specs.Chains.{depthOf, notedPath, Chain, Linked, isNotedStep, pathBytes, backBytes, loopBytes}
 use Rattle.bases.specs.Words.{Pathed, AtSpot, isOutside, basisIn, textOf}
 use Rattle.bases.proofs.ChainLaws.{map-append, length-loop-bytes}

@@ -30,7 +30,7 @@ struct Size {
 }
 
 // Whether a cause applies.
-enum Found {
+pub enum Found {
     Cause(Refusal),
     Nothing,
 }
@@ -252,7 +252,7 @@ fn write_words(s: Subgroup, table: &[u32], work: &[u32], out: &mut [u8])
 }
 
 // Whether 1, 6, 7 or 8 applies, the first of them.
-fn early_cause(s: Subgroup, table: &[u32], room: usize) -> Found
+pub fn early_cause(s: Subgroup, table: &[u32], room: usize) -> Found
     ensures found { λ r. ⌜ r ≡ foundAs (earlyRefusal (s .n) (s .points) (now (table .entry)) room none) ⌝ }
 {
     let n = s.n;

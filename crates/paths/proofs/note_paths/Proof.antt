@@ -1,6 +1,7 @@
 -- `paths::note_paths` meets its contract. The loops: the cells before letter y of row v are passed (`PathTurn`).
 -- Assumes nothing.
-use Rattle.paths.proofs.PathTurn.{ready-sizes, Kept, kept-same, kept-first, kept-then, kept-turn, Head, head-first, head-noting, head-turn, head-row, head-done}
+use Rattle.paths.proofs.MetLaws.{ready-sizes}
+use Rattle.paths.proofs.PathTurn.{Kept, kept-same, kept-first, kept-then, kept-turn, Head, head-first, head-noting, head-turn, head-row, head-done}
 use Prim.Native.Nat.{_-_, _<_}
 use native.Mathlib.Omega.{arith}
 use Rattle.paths.proofs.note_paths.Statement.{statement}
