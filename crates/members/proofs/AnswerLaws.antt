@@ -52,7 +52,7 @@ use Rattle.tables.specs.declared.Walked.the-variants.{Faulty, Sound}
 use Rattle.tables.proofs.WalkLaws.{walk-sound, walk-faulty}
 use Rattle.members.specs.Readings.{readAs, readingAs}
 use Rattle.members.specs.Members.{queryWord, answerFor, answerAs, cellsFor, cellsAfter, MemberOutcome}
-use Rattle.members.specs.Stages.{answerOf, foundAs, lateCause}
+use Rattle.members.specs.Stages.{answerOf, foundAs, lateCause, tableRefusal}
 use Rattle.members.specs.declared.Reading.{Reading}
 use Rattle.members.specs.declared.Reading.the-variants.{Ended}
 use Rattle.members.specs.declared.Answer.{Answer}
@@ -129,6 +129,11 @@ not-found : (o : Option FirstCause) → Nothing ≡ foundAs o → o ≡ none
 not-found none e = refl
 not-found (some c) e = absurd (let z : _≡_ {A = ℕ} 0 1 = cc in omega arith)
 
+-- a cause found is the refusal that there is
+pub found-cause : (o : Option FirstCause) {r : Refusal} → Cause r ≡ foundAs o → (c : FirstCause) × (o ≡ some c) × (r ≡ given c)
+found-cause none e = absurd (let z : _≡_ {A = ℕ} 0 1 = cc in omega arith)
+found-cause (some c) {r} e = (c, refl, cc)
+
 module _ (k n N : ℕ) (t : List ℕ) (needed room : ℕ) where
   pub late-short : {r : Refusal} → k ≡ 7 → room < needed → r ≡ givenAs 7 needed → Cause r ≡ foundAs (lateCause k n N t needed room)
   unfolding lateCause
@@ -145,6 +150,40 @@ module _ (k n N : ℕ) (t : List ℕ) (needed room : ℕ) where
   pub late-sound : {w : Walked} {edges : ℕ} {full : Bool} → (k ≡ 7 → ⊥) → w ≡ walkedAs n N t → w ≡ Sound edges full → Nothing ≡ foundAs (lateCause k n N t needed room)
   unfolding lateCause cellRefusal
   late-sound ne e f = rw (ne-eqb k 7 ne, walk-sound n N t (sym e ∙ f))
+
+-- ── The first of several ──
+
+module _ (n N : ℕ) (t : List ℕ) (needed room : ℕ) where
+  pub table-lent : {b : Bool} {r : Refusal} → b ≡ isLent n N (length t) → b ≡ false → r ≡ givenAs 6 0 → Cause r ≡ foundAs (tableRefusal n N t needed room)
+  unfolding tableRefusal
+  table-lent e f g = ap Cause g ∙ rw (sym e ∙ f)
+
+  module _ (lent : isLent n N (length t) ≡ true) where
+    late-two : tableRefusal n N t needed room ≡ orElse (lateCause 7 n N t needed room) (lateCause 8 n N t needed room)
+    unfolding tableRefusal lateCause
+    late-two = rw lent
+
+    pub table-seven : {f : Found} {r : Refusal} → f ≡ foundAs (lateCause 7 n N t needed room) → f ≡ Cause r → Cause r ≡ foundAs (tableRefusal n N t needed room)
+    table-seven e g =
+        let a = found-cause (lateCause 7 n N t needed room) (sym g ∙ e) in
+        ap Cause (a .2) ∙ sym (ap foundAs (late-two ∙ ap (λ o. orElse o (lateCause 8 n N t needed room)) (a .1)))
+
+    pub table-eight : {f g : Found} → f ≡ foundAs (lateCause 7 n N t needed room) → f ≡ Nothing → g ≡ foundAs (lateCause 8 n N t needed room) → g ≡ foundAs (tableRefusal n N t needed room)
+    table-eight e k d =
+        d ∙ sym (ap foundAs (late-two ∙ ap (λ o. orElse o (lateCause 8 n N t needed room)) (not-found (lateCause 7 n N t needed room) (sym k ∙ e))))
+
+module _ (n N : ℕ) (t query : List ℕ) (room : ℕ) where
+  pub query-text : {s : Scanned} {r : Refusal} → s ≡ scannedAs (textRefusal n false query) → s ≡ ScannedRefused r → Cause r ≡ foundAs (memberRefusal n N t query room)
+  unfolding memberRefusal
+  query-text {s} {r} e f = go (textRefusal n false query) refl (sym f ∙ e)
+    where
+      go : (o : Option FirstCause) → textRefusal n false query ≡ o → ScannedRefused r ≡ scannedAs o → Cause r ≡ foundAs (memberRefusal n N t query room)
+      go none o z = absurd (let y : _≡_ {A = ℕ} 0 1 = cc in omega arith)
+      go (some c) o z = let g : r ≡ given c = cc in ap Cause g ∙ rw o
+
+  pub query-table : {f : Found} → textRefusal n false query ≡ none → f ≡ foundAs (tableRefusal n N t (length query) room) → f ≡ foundAs (memberRefusal n N t query room)
+  unfolding memberRefusal tableRefusal
+  query-table e d = d ∙ rw e
 
 -- ── Nothing is refused ──
 
@@ -194,83 +233,46 @@ module _ (n N : ℕ) (t query work : List ℕ) where
         omega (arith, f .enough, same),
       )
 
-  -- the query is reduced, read, and the cells are cleared
-  pub decided : {r : Reduced} {after cells : List ℕ} {reading : Reading} {answer : Answer} → memberRefusal n N t query (length work) ≡ none
-      → ReducedInto query work r after → reading ≡ readingAs n N t (take (r .left) after)
-      → cells ≡ filled (length query) 0 after → answer ≡ answerOf reading → MemberOutcome n N t query work answer cells
-  unfolding answerAs cellsAfter filled
-  decided {r} {after} {cells} {reading} {answer} none-refused into read cleared said =
-      record {
-        answer = said ∙ ap answerOf (read ∙ ap (readingAs n N t) letters-left) ∙ answer-accepted n N t (queryWord query) ∙ sym (ap (answerFor n N t query) none-refused);
-        cells =
-            cleared
-            ∙ ap (λ l. replicate (length query) 0 ++ l) kept
-            ∙ sym (ap (cellsFor query work) none-refused);
-      }
-    where
-      f : Fine n N t query (length work)
-      f = fine n N t query (length work) none-refused
+  module _ (none-refused : memberRefusal n N t query (length work) ≡ none) {r : Reduced} {after : List ℕ} (into : ReducedInto query work r after) where
+    -- the letters left are the reduced query
+    pub letters-left : take (r .left) after ≡ reduced (queryWord query)
+    letters-left =
+        ap (take (r .left)) (into .cells)
+        ∙ ap (λ k. take k (reducedCells (firstWord query) work)) (into .left)
+        ∙ cells-start (firstWord query) work
+        ∙ ap reduced (query-word n query (fine n N t query (length work) none-refused .text))
 
-      w : List ℕ
-      w = firstWord query
+    -- the cells behind the needed ones are as they were
+    pub cells-behind : drop (length query) after ≡ drop (length query) work
+    cells-behind =
+        ap (drop (length query)) (into .cells) ∙ cells-kept (firstWord query) work (length query) (omega (arith, length-first))
+      where
+        length-first : length (firstWord query) ≡ length query
+        length-first =
+            length-firstWord query ∙ query-length n query (fine n N t query (length work) none-refused .text)
 
-      letters-left : take (r .left) after ≡ reduced (queryWord query)
-      letters-left =
-          ap (take (r .left)) (into .cells)
-          ∙ ap (λ k. take k (reducedCells w work)) (into .left)
-          ∙ cells-start w work
-          ∙ ap reduced (query-word n query (f .text))
+    -- the query is reduced, read, and the cells are cleared
+    pub decided : {cells : List ℕ} {reading : Reading} {answer : Answer} → reading ≡ readingAs n N t (take (r .left) after)
+        → cells ≡ filled (length query) 0 after → answer ≡ answerOf reading → MemberOutcome n N t query work answer cells
+    unfolding answerAs cellsAfter filled
+    decided read cleared said =
+        record {
+          answer = said ∙ ap answerOf (read ∙ ap (readingAs n N t) letters-left) ∙ answer-accepted n N t (queryWord query) ∙ sym (ap (answerFor n N t query) none-refused);
+          cells =
+              cleared
+              ∙ ap (λ l. replicate (length query) 0 ++ l) cells-behind
+              ∙ sym (ap (cellsFor query work) none-refused);
+        }
 
-      kept : drop (length query) after ≡ drop (length query) work
-      kept = ap (drop (length query)) (into .cells) ∙ cells-kept w work (length query) (omega (arith, length-first))
-        where
-          length-first : length w ≡ length query
-          length-first = length-firstWord query ∙ query-length n query (f .text)
-
-  -- ── Refusals ──
-
-  pub refused : {r : Refusal} (f : FirstCause) → memberRefusal n N t query (length work) ≡ some f → r ≡ given f → MemberOutcome n N t query work (Refused r) work
+  -- the first cause, or the answer where there is none
+  pub member-refused : {f : Found} {r : Refusal} → f ≡ foundAs (memberRefusal n N t query (length work)) → f ≡ Cause r → MemberOutcome n N t query work (Refused r) work
   unfolding answerAs cellsAfter
-  refused f e g =
+  member-refused {f} {r} e g =
+      let a = found-cause (memberRefusal n N t query (length work)) (sym g ∙ e) in
       record {
-        answer = ap Refused g ∙ sym (ap (answerFor n N t query) e);
-        cells = sym (ap (cellsFor query work) e);
+        answer = ap Refused (a .2) ∙ sym (ap (answerFor n N t query) (a .1));
+        cells = sym (ap (cellsFor query work) (a .1));
       }
 
-  pub scan-refused : {s : Scanned} {r : Refusal} → s ≡ scannedAs (textRefusal n false query) → s ≡ ScannedRefused r → MemberOutcome n N t query work (Refused r) work
-  unfolding memberRefusal
-  scan-refused {s} {r} e f = go (textRefusal n false query) refl (sym f ∙ e)
-    where
-      go : (o : Option FirstCause) → textRefusal n false query ≡ o → ScannedRefused r ≡ scannedAs o → MemberOutcome n N t query work (Refused r) work
-      go none o z = absurd (let y : _≡_ {A = ℕ} 0 1 = cc in omega arith)
-      go (some c) o z = refused c (rw o) (cc)
-
-  module _ (text : textRefusal n false query ≡ none) where
-    pub lent-refused : {b : Bool} {r : Refusal} → b ≡ isLent n N (length t) → b ≡ false → r ≡ givenAs 6 0 → MemberOutcome n N t query work (Refused r) work
-    unfolding memberRefusal
-    lent-refused e f g = refused (record { number = 6; place = 0 }) (rw (text, sym e ∙ f)) g
-
-    module _ (lent : isLent n N (length t) ≡ true) where
-      late : memberRefusal n N t query (length work) ≡ orElse (lateCause 7 n N t (length query) (length work)) (lateCause 8 n N t (length query) (length work))
-      unfolding memberRefusal lateCause
-      late = rw (text, lent)
-
-      pub late-first : {f : Found} {r : Refusal} → f ≡ foundAs (lateCause 7 n N t (length query) (length work)) → f ≡ Cause r → MemberOutcome n N t query work (Refused r) work
-      late-first {f} {r} e g = go (lateCause 7 n N t (length query) (length work)) refl (sym g ∙ e)
-        where
-          go : (o : Option FirstCause) → lateCause 7 n N t (length query) (length work) ≡ o → Cause r ≡ foundAs o → MemberOutcome n N t query work (Refused r) work
-          go none o z = absurd (let y : _≡_ {A = ℕ} 0 1 = cc in omega arith)
-          go (some c) o z = refused c (late ∙ ap (λ a. orElse a (lateCause 8 n N t (length query) (length work))) o) (cc)
-
-      pub late-second : {f g : Found} {r : Refusal} → f ≡ foundAs (lateCause 7 n N t (length query) (length work)) → f ≡ Nothing
-          → g ≡ foundAs (lateCause 8 n N t (length query) (length work)) → g ≡ Cause r → MemberOutcome n N t query work (Refused r) work
-      late-second {f} {g} {r} e k d j = go (lateCause 8 n N t (length query) (length work)) refl (sym j ∙ d)
-        where
-          go : (o : Option FirstCause) → lateCause 8 n N t (length query) (length work) ≡ o → Cause r ≡ foundAs o → MemberOutcome n N t query work (Refused r) work
-          go none o z = absurd (let y : _≡_ {A = ℕ} 0 1 = cc in omega arith)
-          go (some c) o z = refused c (late ∙ ap (λ a. orElse a (lateCause 8 n N t (length query) (length work))) (not-found (lateCause 7 n N t (length query) (length work)) (sym k ∙ e)) ∙ o) (cc)
-
-      pub late-none : {f g : Found} → f ≡ foundAs (lateCause 7 n N t (length query) (length work)) → f ≡ Nothing
-          → g ≡ foundAs (lateCause 8 n N t (length query) (length work)) → g ≡ Nothing → memberRefusal n N t query (length work) ≡ none
-      late-none e k d j =
-          late ∙ ap (λ a. orElse a (lateCause 8 n N t (length query) (length work))) (not-found (lateCause 7 n N t (length query) (length work)) (sym k ∙ e)) ∙ not-found (lateCause 8 n N t (length query) (length work)) (sym j ∙ d)
+  pub member-fine : {f : Found} → f ≡ foundAs (memberRefusal n N t query (length work)) → f ≡ Nothing → memberRefusal n N t query (length work) ≡ none
+  member-fine e g = not-found (memberRefusal n N t query (length work)) (sym g ∙ e)

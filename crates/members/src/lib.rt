@@ -1,17 +1,17 @@
 // Membership on a lent table: reading a reduced query from the base.
 ghost use mathlib.Core.Path.{_≡_};
-ghost use mathlib.Core.Bool.{true, false};
+ghost use mathlib.Core.Bool.{true};
 ghost use mathlib.Core.Option.{none};
 ghost use Prim.Native.Nat.{_*_, _≤_, _<_};
 ghost use lib.ListN.{length, take};
 ghost use Rattle.theory.specs.Letters.{usual};
-ghost use Rattle.theory.specs.Refusals.{isAlphabet, textRefusal};
+ghost use Rattle.theory.specs.Refusals.{isAlphabet};
 ghost use Rattle.theory.specs.TableRefusals.{isLent, memberRefusal};
 ghost use Rattle.theory.specs.Tables.{cell};
 ghost use Rattle.theory.specs.Canonical.{Canonical};
 ghost use Rattle.members.specs.Readings.{readingAs};
 ghost use Rattle.members.specs.Members.{MemberOutcome};
-ghost use Rattle.members.specs.Stages.{answerOf, foundAs, lateCause};
+ghost use Rattle.members.specs.Stages.{answerOf, foundAs, lateCause, tableRefusal};
 use lists::Scanned;
 use refusals::Refusal;
 use tables::Subgroup;
@@ -37,7 +37,7 @@ pub enum Answer {
 }
 
 // Whether a cause applies.
-enum Found {
+pub enum Found {
     Cause(Refusal),
     Nothing,
 }
@@ -132,29 +132,27 @@ fn late_cause(number: u64, s: Subgroup, table: &[u32], needed: usize, room: usiz
     }
 }
 
-// What is said of a query that is fine, on a table of enough cells: 7, 8 or the answer.
-fn member_of_table(s: Subgroup, table: &[u32], query: &[u8], work: &mut [u32]) -> Answer
-    requires { ⌜ (textRefusal (s .n) false (now query) ≡ none) × (isLent (s .n) (s .points) (length (now table)) ≡ true) ⌝ }
-    ensures outcome { λ r. ⌜ MemberOutcome (s .n) (s .points) (now (table .entry)) (now (query .entry)) (now (work .entry)) r (now (work .exit)) ⌝ }
+// The first of 6, 7 and 8 that applies to a table and so many work cells.
+fn table_cause(s: Subgroup, table: &[u32], needed: usize, room: usize) -> Found
+    requires { ⌜ isAlphabet (s .n) ≡ true ⌝ }
+    ensures found { λ r. ⌜ r ≡ foundAs (tableRefusal (s .n) (s .points) (now (table .entry)) needed room) ⌝ }
 {
-    match late_cause(7, s, table, query.len(), work.len()) {
-        Found::Cause(r) => Answer::Refused(r),
-        Found::Nothing => match late_cause(8, s, table, query.len(), work.len()) {
-            Found::Cause(r) => Answer::Refused(r),
-            Found::Nothing => decide(s, table, query, work),
-        },
+    if !tables::is_lent(s, table.len()) {
+        return Found::Cause(refusals::refuse(6, 0));
+    }
+    match late_cause(7, s, table, needed, room) {
+        Found::Cause(r) => Found::Cause(r),
+        Found::Nothing => late_cause(8, s, table, needed, room),
     }
 }
 
-// What is said of a query that is fine: 6 and what comes behind it.
-fn member_of_text(s: Subgroup, table: &[u32], query: &[u8], work: &mut [u32]) -> Answer
-    requires { ⌜ textRefusal (s .n) false (now query) ≡ none ⌝ }
-    ensures outcome { λ r. ⌜ MemberOutcome (s .n) (s .points) (now (table .entry)) (now (query .entry)) (now (work .entry)) r (now (work .exit)) ⌝ }
+// The first cause that applies to a query on a table handed in, with so many work cells: 1, 2, 3/4, 6, 7, 8.
+pub fn query_cause(s: Subgroup, table: &[u32], query: &[u8], room: usize) -> Found
+    ensures found { λ r. ⌜ r ≡ foundAs (memberRefusal (s .n) (s .points) (now (table .entry)) (now (query .entry)) room) ⌝ }
 {
-    if tables::is_lent(s, table.len()) {
-        member_of_table(s, table, query, work)
-    } else {
-        Answer::Refused(refusals::refuse(6, 0))
+    match lists::scan(s.n, query, false) {
+        Scanned::Refused(r) => Found::Cause(r),
+        Scanned::Fine => table_cause(s, table, query.len(), room),
     }
 }
 
@@ -162,8 +160,8 @@ fn member_of_text(s: Subgroup, table: &[u32], query: &[u8], work: &mut [u32]) ->
 pub fn member(s: Subgroup, table: &[u32], query: &[u8], work: &mut [u32]) -> Answer
     ensures outcome { λ r. ⌜ MemberOutcome (s .n) (s .points) (now (table .entry)) (now (query .entry)) (now (work .entry)) r (now (work .exit)) ⌝ }
 {
-    match lists::scan(s.n, query, false) {
-        Scanned::Refused(r) => Answer::Refused(r),
-        Scanned::Fine => member_of_text(s, table, query, work),
+    match query_cause(s, table, query, work.len()) {
+        Found::Cause(r) => Answer::Refused(r),
+        Found::Nothing => decide(s, table, query, work),
     }
 }
