@@ -1,6 +1,7 @@
 -- What `parse` and `query_at` give together: the list and the queries of the input.
 --   parse-list    : the bytes in front are the list
 --   parse-queries : the walk from the queries' place gives the queries
+--   list-fits, query-fits : the list and a query stand inside the bytes
 -- Assumes nothing.
 use mathlib.Core.Path.{_≡_, refl, sym, _∙_, ap, subst}
 use mathlib.Core.Bool.{Bool, true, false, cond, _||_, true≢false}
@@ -40,6 +41,7 @@ use Rattle.inputs.specs.Parsed.{
 }
 use Rattle.inputs.specs.declared.Parsed.{Parsed}
 use Rattle.inputs.specs.declared.Parsed.the-variants.{BadInput, Refused, Accepted}
+use Rattle.inputs.specs.declared.Query.the-variants.{Asked, Ended}
 use Rattle.inputs.proofs.LineLaws.{Line, line-of, no-line, lineSize, size-inside, first-size, later-lines}
 use Rattle.inputs.proofs.MarkLaws.{afterRun, lines-run, bad-plus, list-run, two-marks}
 use Rattle.inputs.proofs.MoveTurn.{front-drop, line-text}
@@ -152,3 +154,28 @@ module _ (input : List ℕ) (n list queries : ℕ) (after : List ℕ) (h : Parse
       (omega (arith, lines-few (afterRun plusMark (laterLines input)) (drop queries after) lines-behind, length-drop queries after))
       ∙ sym (asked-texts (afterRun plusMark (laterLines input)) (sym (bad-plus (laterLines input)) ∙ good))
       ∙ sym (plus-texts (laterLines input))
+
+-- ── Places inside the input ──
+
+-- the list stands inside the bytes
+pub list-fits : (input : List ℕ) (n list queries : ℕ) (after : List ℕ) → ParsedInto input (Accepted n list queries) after → list ≤ length after
+unfolding frontedBy
+list-fits input n list queries after h =
+    omega (arith, parts input n list queries after h .0, ap length (h .bytes), length-append (listOf (laterLines input)) (drop (length (listOf (laterLines input))) input))
+
+-- a query that is found stands inside the bytes, and the next line starts behind the place that was asked
+pub query-fits : (input : List ℕ) (at start size next : ℕ) → Asked start size next ≡ queryAt input at → (start + size ≤ length input) × (at < next) × (next ≤ length input)
+unfolding queryAt
+query-fits input at start size next e = go (linesOf (drop at input)) refl e
+  where
+    go : (ls : List (List ℕ)) → linesOf (drop at input) ≡ ls → Asked start size next ≡ queryAs at ls → (start + size ≤ length input) × (at < next) × (next ≤ length input)
+    go [] l q = absurd (let z : _≡_ {A = ℕ} 0 1 = cc in omega arith)
+    go (l ∷ ls) l′ q =
+        let k = line-of (drop at input) l ls l′ in
+        let a : start ≡ at + 1 = cc in
+        let b : size ≡ length (withoutEnd (drop 1 l)) = cc in
+        let d : next ≡ at + length l = cc in (
+          omega (arith, a, b, without-length (drop 1 l), wordLength-le (drop 1 l), length-drop 1 l, k .some, k .inside, length-drop at input),
+          omega (arith, d, k .some),
+          omega (arith, d, k .inside, k .some, length-drop at input),
+        )

@@ -1,5 +1,7 @@
 // The printing program of document 01: reads n, a list and queries, and prints the figures of the list's subgroup, its
 // basis, and an answer to each query. It has five buffers; the list is put together in the one of the input.
+ghost use Prim.Native.Nat.{_≤_};
+ghost use lib.ListN.{length};
 use bases::BasisAnswer;
 use expressions::Expressed;
 use folds::FoldFigures;
@@ -55,13 +57,18 @@ fn print_folds(f: FoldFigures) {
     prints::text(b"\n");
 }
 
-// Writes a line for each word of a basis: a word stands in the text with its line end.
+// Writes the line of a basis word that has its line end.
+fn print_word(word: &[u8]) {
+    prints::text(b"basis ");
+    prints::text(word);
+}
+
+// Writes a line for each word of a basis.
 fn print_words(text: &[u8]) {
     let mut at: usize = 0;
     while at < text.len() {
         let next = lists::next_start(text, at);
-        prints::text(b"basis ");
-        prints::text(&text[at..next]);
+        print_word(&text[at..next]);
         at = next;
     }
 }
@@ -86,26 +93,28 @@ fn print_numbers(numbers: &[i32]) {
     }
 }
 
+// Writes the line of a query that is no member.
+fn print_outside(query: &[u8]) {
+    prints::text(query);
+    prints::text(b" no\n");
+}
+
+// Writes the line of a member: the word as written, and its expression.
+fn print_inside(query: &[u8], numbers: &[i32]) {
+    prints::text(query);
+    prints::text(b" yes");
+    print_numbers(numbers);
+    prints::text(b"\n");
+}
+
 // Writes the line of a query, or its refusal in place of it.
-fn print_query(
-    s: Subgroup,
-    table: &[u32],
-    query: &[u8],
-    work: &mut [u32],
-    expression: &mut [i32],
-) {
+fn print_query(s: Subgroup, table: &[u32], query: &[u8], work: &mut [u32], expression: &mut [i32]) {
     match expressions::express(s, table, query, work, expression) {
         Expressed::Refused(r) => prints::refused(r),
-        Expressed::Outside => {
-            prints::text(query);
-            prints::text(b" no\n");
-        }
+        Expressed::Outside => print_outside(query),
         Expressed::Inside(count) => {
             let size = count as usize;
-            prints::text(query);
-            prints::text(b" yes");
-            print_numbers(&expression[..size]);
-            prints::text(b"\n");
+            print_inside(query, &expression[..size]);
         }
     }
 }
@@ -144,7 +153,9 @@ fn print_list(
     table: &mut [u32],
     work: &mut [u32],
     expression: &mut [i32],
-) {
+)
+    requires { ⌜ list ≤ length (now input) ⌝ }
+{
     match folds::fold(n, &input[..list], table, work) {
         Folded::Refused(r) => prints::refused(r),
         Folded::Made(f) => {
@@ -170,7 +181,16 @@ fn print_input(
     match inputs::parse(input) {
         Parsed::BadInput => prints::text(b"bad input\n"),
         Parsed::Refused(r) => prints::refused(r),
-        Parsed::Accepted { n, list, queries } => print_list(n, input, list, queries, basis, table, work, expression),
+        Parsed::Accepted { n, list, queries } => print_list(
+            n,
+            input,
+            list,
+            queries,
+            basis,
+            table,
+            work,
+            expression,
+        ),
     }
 }
 
@@ -193,5 +213,11 @@ fn main() {
             return;
         }
     }
-    print_input(&mut input[..got], &mut basis, &mut table, &mut work, &mut expression);
+    print_input(
+        &mut input[..got],
+        &mut basis,
+        &mut table,
+        &mut work,
+        &mut expression,
+    );
 }
