@@ -1,4 +1,4 @@
-// Writing to standard output: a number in decimal, and a refusal. What is written no contract can say: programs are run and compared.
+// Writing to standard output: texts, numbers in decimal, and refusals. What is written no contract can say: programs are run and compared.
 ghost use mathlib.Core.Path.{_≡_};
 ghost use lib.IntN.{natAbs};
 use libc::STDOUT_FILENO;
@@ -25,6 +25,15 @@ pub fn refusal(r: Refusal) {
 pub fn next(x: u64) {
     io::write_all(STDOUT_FILENO, b" ");
     number(x);
+}
+
+// Writes cells, each with a space before it.
+pub fn cells(cells: &[u32]) {
+    let mut i: usize = 0;
+    while i < cells.len() {
+        next(cells[i] as u64);
+        i += 1;
+    }
 }
 
 // The size of a signed number, without its sign.
