@@ -11,16 +11,10 @@ use folds::Folded;
 use libc::STDOUT_FILENO;
 use tables::Index;
 
-// Writes a number, with a space before it.
-fn print_next(x: u64) {
-    io::write_all(STDOUT_FILENO, b" ");
-    prints::number(x);
-}
-
 // Writes the index of a subgroup, with a space before it.
 fn print_index(index: Index) {
     match index {
-        Index::Finite(k) => print_next(k),
+        Index::Finite(k) => prints::next(k),
         Index::Infinite => {
             io::write_all(STDOUT_FILENO, b" infinite");
         }
@@ -32,13 +26,13 @@ fn print_figures(f: FoldFigures) {
     let counts = f.counts;
     let index = counts.index;
     prints::number(f.points);
-    print_next(counts.edges);
-    print_next(counts.rank);
+    prints::next(counts.edges);
+    prints::next(counts.rank);
     print_index(index);
-    print_next(f.start.points as u64);
-    print_next(f.start.edges as u64);
-    print_next(f.merging);
-    print_next(f.closing);
+    prints::next(f.start.points as u64);
+    prints::next(f.start.edges as u64);
+    prints::next(f.merging);
+    prints::next(f.closing);
 }
 
 // Writes what folding says.
@@ -46,15 +40,6 @@ fn print_outcome(o: Folded) {
     match o {
         Folded::Refused(r) => prints::refusal(r),
         Folded::Made(f) => print_figures(f),
-    }
-}
-
-// Writes lent cells.
-fn print_cells(cells: &[u32]) {
-    let mut i: usize = 0;
-    while i < cells.len() {
-        print_next(cells[i] as u64);
-        i += 1;
     }
 }
 
@@ -75,10 +60,10 @@ fn check_of(cells: &[u32]) -> u64
 fn print_line(o: Folded, table: &[u32], work: &[u32]) {
     print_outcome(o);
     if table.len() <= 64 {
-        print_cells(table);
+        prints::cells(table);
     }
-    print_next(check_of(table));
-    print_next(check_of(work));
+    prints::next(check_of(table));
+    prints::next(check_of(work));
     io::write_all(STDOUT_FILENO, b"\n");
 }
 

@@ -14,32 +14,17 @@ use tables::Figures;
 use tables::Index;
 use tables::Subgroup;
 
-// Writes a number, with a space before it.
-fn print_next(x: u64) {
-    io::write_all(STDOUT_FILENO, b" ");
-    prints::number(x);
-}
-
 // Writes the counts of a table.
 fn print_figures(f: Figures) {
     io::write_all(STDOUT_FILENO, b"counts");
-    print_next(f.edges);
-    print_next(f.rank);
+    prints::next(f.edges);
+    prints::next(f.rank);
     let index = f.index;
     match index {
-        Index::Finite(k) => print_next(k),
+        Index::Finite(k) => prints::next(k),
         Index::Infinite => {
             io::write_all(STDOUT_FILENO, b" infinite");
         }
-    }
-}
-
-// Writes lent cells.
-fn print_cells(cells: &[u32]) {
-    let mut i: usize = 0;
-    while i < cells.len() {
-        print_next(cells[i] as u64);
-        i += 1;
     }
 }
 
@@ -65,7 +50,7 @@ fn run_member(s: Subgroup, table: &[u32], query: &[u8], work: &mut [u32])
         }
     }
     io::write_all(STDOUT_FILENO, b" work");
-    print_cells(work);
+    prints::cells(work);
 }
 
 // Two tables are compared.

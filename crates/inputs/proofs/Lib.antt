@@ -1,0 +1,10 @@
+pub mod LineLaws
+pub mod MarkLaws
+pub mod NumberLaws
+pub mod MoveTurn
+pub mod RunTurn
+pub mod QueryLaws
+pub mod ParseLaws
+pub mod Determined
+pub mod Refuted
+pub mod Queries
