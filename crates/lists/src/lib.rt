@@ -148,7 +148,7 @@ pub fn next_start(text: &[u8], at: usize) -> usize
 }
 
 // No refusal meets the list.
-fn is_good(n: u64, list: &[u8]) -> bool
+pub fn is_good(n: u64, list: &[u8]) -> bool
     ensures good { λ r. ⌜ r ≡ isGood n (now (list .entry)) ⌝ }
 {
     match scan(n, list, true) {

@@ -1,13 +1,11 @@
 // The library that C and Rust programs link: each function answers a struct of plain numbers, laid out as in C.
 ghost use mathlib.Core.Path.{_≡_};
-ghost use Rattle.lists.specs.Shorter.{isGood};
 ghost use Rattle.subgroups.specs.Replies.{finiteOf, indexOf, madeReply, replyOf, countedReply, checkedReply, answerReply, equalityReply, basisReply, savedReply};
 ghost use Rattle.subgroups.specs.Outcomes.{FoldReplied, AskReplied, CheckReplied, MemberReplied, EqualReplied, BasisReplied, SaveTableReplied, ShorterReplied};
 use bases::BasisAnswer;
 use equals::Equality;
 use folds::FoldFigures;
 use folds::Folded;
-use lists::Scanned;
 use members::Answer;
 use saves::Saved;
 use tables::Checked;
@@ -343,16 +341,6 @@ pub struct PartReply {
     pub bytes: u64,
 }
 
-// No refusal meets the list.
-fn is_good(n: u64, list: &[u8]) -> bool
-    ensures good { λ r. ⌜ r ≡ isGood n (now (list .entry)) ⌝ }
-{
-    match lists::scan(n, list, true) {
-        Scanned::Fine => true,
-        Scanned::Refused(_) => false,
-    }
-}
-
 // Says which of two lists is the one that `lists::shorter` hands back: a slice does not cross.
 #[no_mangle]
 pub extern "C" fn subgroups_shorter(n: u64, first: &[u8], second: &[u8]) -> PartReply
@@ -366,8 +354,8 @@ pub extern "C" fn subgroups_shorter(n: u64, first: &[u8], second: &[u8]) -> Part
         which: 2,
         bytes: second.len() as u64,
     };
-    if is_good(n, first) {
-        if is_good(n, second) {
+    if lists::is_good(n, first) {
+        if lists::is_good(n, second) {
             if lists::letters_in(first) <= lists::letters_in(second) {
                 return ours;
             }
@@ -375,7 +363,7 @@ pub extern "C" fn subgroups_shorter(n: u64, first: &[u8], second: &[u8]) -> Part
         }
         return ours;
     }
-    if is_good(n, second) {
+    if lists::is_good(n, second) {
         return other;
     }
     PartReply { which: 0, bytes: 0 }

@@ -9,7 +9,7 @@ use Rattle.subgroups.proofs.subgroups_shorter.Tie as tie
 use Rattle.subgroups.proofs.subgroups_shorter.Reads as reads
 use Rattle.subgroups.proofs.subgroups_shorter.Lts as lts
 use Rattle.lists.proofs.letters_in.Reads as letters-in-reads
-use Rattle.subgroups.proofs.is_good.Reads as is-good-reads
+use Rattle.lists.proofs.is_good.Reads as is-good-reads
 
 -- src/lib.rt:360:8
 is-good-requires : tie.Need-is-good-requires
