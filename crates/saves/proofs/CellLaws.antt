@@ -9,13 +9,13 @@ use mathlib.Core.Bool.{not}
 use mathlib.Core.Option.{none}
 use mathlib.Core.List.{List, [], _∷_, _++_, map}
 use Prim.Native.Nat.{ℕ, zero, suc, _+_, _*_, _≤_, _<_}
-use native.Mathlib.Nat.{mul-le-mul, mul-le-mul-left}
+use native.Mathlib.Nat.{mul-le-mul-left}
 use native.Mathlib.Numerals.{add-one}
 use native.Mathlib.Omega.{arith}
 use lib.ListN.{length, getD, take, drop, length-append, drop-of-length-le}
 use borrow.Author.Tests.{eq-eqb, ne-eqb, not-false}
 use Rattle.theory.specs.Files.{numberLimit, numberBytes, numbersBytes, cellNumber, tableFile}
-use Rattle.theory.specs.Refusals.{isAlphabet, pointLimit, refusedIf}
+use Rattle.theory.specs.Refusals.{isAlphabet, refusedIf}
 use Rattle.theory.specs.Tables.{absent}
 use Rattle.theory.specs.TableRefusals.{isLent, checkRefusal, cellRefusal}
 use Rattle.theory.proofs.RefusalLaws.{alphabet-in}
@@ -81,12 +81,6 @@ table-sized n N count head size t e a b =
     omega (arith, a, b, length-append (numbersBytes (1 ∷ n ∷ N ∷ [])) (numbersBytes (cellNumbers count t)), ap length (table-numbers n N count t e))
 
 -- ── The sizes ──
-
-pub count-few : (n N : ℕ) → n ≤ 26 → N ≤ pointLimit → N * (2 * n) ≤ 54526004
-count-few n N h k = mul-le-mul k twice
-  where
-    twice : 2 * n ≤ 52
-    twice = omega arith
 
 pub savable : (n N : ℕ) (t : List ℕ) → checkRefusal n N t ≡ none → Savable n N (length t)
 unfolding checkRefusal

@@ -82,20 +82,12 @@ fn write_head(out: &mut [u8], kind: u64, n: u64, count: u64) -> usize
     numbers::write_number(out, second, count)
 }
 
-// The cells of a table.
-fn cell_count(s: Subgroup, cells: usize) -> usize
-    requires { ⌜ Savable (s .n) (s .points) cells ⌝ }
-    ensures count { λ r. ⌜ (r ≡ s .points * (2 * s .n)) × (r ≤ 54526004) ⌝ }
-{
-    (s.points as usize) * (2 * (s.n as usize))
-}
-
 // The bytes of a table's file.
 fn table_size(s: Subgroup, table: &[u32]) -> usize
     requires { ⌜ Savable (s .n) (s .points) (length (now table)) ⌝ }
     ensures size { λ r. ⌜ r ≡ length (tableFile (s .n) (s .points) (now (table .entry))) ⌝ }
 {
-    let count = cell_count(s, table.len());
+    let count = tables::cell_count(s);
     let head = head_size(1, s.n, s.points);
     head + cells_size(table, count)
 }
@@ -105,7 +97,7 @@ fn write_table(s: Subgroup, table: &[u32], out: &mut [u8]) -> usize
     requires { ⌜ Savable (s .n) (s .points) (length (now table)) × (length (tableFile (s .n) (s .points) (now table)) ≤ length (now out)) ⌝ }
     ensures written { λ r. ⌜ WrittenAt 0 (tableFile (s .n) (s .points) (now (table .entry))) (now (out .entry)) r (now (out .exit)) ⌝ }
 {
-    let count = cell_count(s, table.len());
+    let count = tables::cell_count(s);
     let at = write_head(out, 1, s.n, s.points);
     write_cells(table, count, out, at)
 }

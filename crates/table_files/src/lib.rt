@@ -58,14 +58,6 @@ fn put_cells(file: &[u8], at: usize, count: usize, table: &mut [u32])
     }
 }
 
-// The cells of a table.
-fn cell_count(s: Subgroup, cells: usize) -> usize
-    requires { ⌜ (isAlphabet (s .n) ≡ true) × (isLent (s .n) (s .points) cells ≡ true) ⌝ }
-    ensures count { λ r. ⌜ (r ≡ s .points * (2 * s .n)) × (r ≤ cells) ⌝ }
-{
-    (s.points as usize) * (2 * (s.n as usize))
-}
-
 // Writes the cells of a table that were read through, and walks it: a faulty one is taken back and refused by 8.
 fn fill_table(s: Subgroup, file: &[u8], at: usize, table: &mut [u32]) -> TableRead
     requires { ⌜ (isAlphabet (s .n) ≡ true) × (isLent (s .n) (s .points) (length (now table)) ≡ true) × (at ≤ length (now file)) × Whole (runOf (now file) at (s .points * (2 * s .n))) ⌝ }
@@ -73,7 +65,7 @@ fn fill_table(s: Subgroup, file: &[u8], at: usize, table: &mut [u32]) -> TableRe
     ensures cells { λ _. ⌜ now (table .exit) ≡ tableFor (now (table .entry)) (byFault (s .points) (cellsOf (runOf (now (file .entry)) at (s .points * (2 * s .n)))) (cellRefusal (s .n) (s .points) (cellsOf (runOf (now (file .entry)) at (s .points * (2 * s .n)))))) ⌝ }
 {
     let points = s.points;
-    let count = cell_count(s, table.len());
+    let count = tables::cell_count(s);
     put_cells(file, at, count, table);
     match tables::walk(s, table) {
         Walked::Faulty(p) => {
@@ -94,7 +86,7 @@ fn read_cells(s: Subgroup, file: &[u8], from: usize, at: usize, table: &mut [u32
     if !tables::is_lent(s, cells) {
         return TableRead::Refused(refusals::refuse(6, 0));
     }
-    let count = cell_count(s, cells);
+    let count = tables::cell_count(s);
     match runs::skip(file, at, count as u64, 4294967296) {
         Skipped::Refused(r) => TableRead::Refused(r),
         Skipped::Behind(end) => {

@@ -1,12 +1,12 @@
 // Tables lent from outside: the record that goes with them, the canonical walk, and the counts.
 ghost use mathlib.Core.Path.{_≡_};
 ghost use mathlib.Core.Bool.{true};
-ghost use Prim.Native.Nat.{_+_, _*_, _<_, max};
+ghost use Prim.Native.Nat.{_+_, _*_, _≤_, _<_, max};
 ghost use lib.ListN.{length};
 ghost use Rattle.theory.specs.Words.{inv};
 ghost use Rattle.theory.specs.Tables.{cell};
 ghost use Rattle.theory.specs.Canonical.{breaksCell};
-ghost use Rattle.theory.specs.Refusals.{isAlphabet};
+ghost use Rattle.theory.specs.Refusals.{pointLimit, isAlphabet};
 ghost use Rattle.theory.specs.TableRefusals.{isLent};
 ghost use Rattle.tables.specs.Walks.{walkedAs};
 ghost use Rattle.tables.specs.Cells.{Inside, isThin, rowBroken, brokenAt, visitedAs, indexFor};
@@ -58,6 +58,14 @@ pub fn is_lent(s: Subgroup, cells: usize) -> bool
         return false;
     }
     points * (2 * n) <= cells as u64
+}
+
+// How many cells a table has.
+pub fn cell_count(s: Subgroup) -> usize
+    requires { ⌜ (s .n ≤ 26) × (s .points ≤ pointLimit) ⌝ }
+    ensures count { λ r. ⌜ (r ≡ s .points * (2 * s .n)) × (r ≤ 54526004) ⌝ }
+{
+    (s.points as usize) * (2 * (s.n as usize))
 }
 
 // The absent mark.

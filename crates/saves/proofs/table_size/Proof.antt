@@ -8,7 +8,7 @@ use Rattle.saves.proofs.table_size.Statement.{statement}
 use Rattle.saves.proofs.table_size.Tie as tie
 use Rattle.saves.proofs.table_size.Reads as reads
 use Rattle.saves.proofs.table_size.Lts as lts
-use Rattle.saves.proofs.cell_count.Reads as cell-count-reads
+use Rattle.tables.proofs.cell_count.Reads as cell-count-reads
 use Rattle.saves.proofs.cells_size.Reads as cells-size-reads
 use Rattle.saves.proofs.head_size.Reads as head-size-reads
 

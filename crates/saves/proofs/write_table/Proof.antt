@@ -7,7 +7,7 @@ use Rattle.saves.proofs.write_table.Statement.{statement}
 use Rattle.saves.proofs.write_table.Tie as tie
 use Rattle.saves.proofs.write_table.Reads as reads
 use Rattle.saves.proofs.write_table.Lts as lts
-use Rattle.saves.proofs.cell_count.Reads as cell-count-reads
+use Rattle.tables.proofs.cell_count.Reads as cell-count-reads
 use Rattle.saves.proofs.write_cells.Reads as write-cells-reads
 use Rattle.saves.proofs.write_head.Reads as write-head-reads
 

@@ -6,6 +6,8 @@ use Rattle.table_files.proofs.ReadLaws.{cells-short, cells-broken, cell
 use mathlib.Core.Path.{_∙_, sym, subst, ap}
 use native.Mathlib.Omega.{arith}
 use Rattle.table_files.proofs.ReadLaws.{cells-short, cells-broken, cells-more, cells-whole, cells-filled}
+use Rattle.theory.proofs.TableRefusalLaws.{lent-in}
+use Rattle.tables.proofs.CellTurn.{alphabet-sizes}
 use borrow.Author.Needs.{needs}
 use Rattle.table_files.proofs.read_cells.Statement.{statement}
 use Rattle.table_files.proofs.read_cells.Tie as tie
@@ -13,7 +15,7 @@ use Rattle.table_files.proofs.read_cells.Reads as reads
 use Rattle.table_files.proofs.read_cells.Lts as lts
 use Rattle.refusals.proofs.refuse.Reads as refuse-reads
 use Rattle.runs.proofs.skip.Reads as skip-reads
-use Rattle.table_files.proofs.cell_count.Reads as cell-count-reads
+use Rattle.tables.proofs.cell_count.Reads as cell-count-reads
 use Rattle.table_files.proofs.fill_table.Reads as fill-table-reads
 use Rattle.tables.proofs.is_lent.Reads as is-lent-reads
 
@@ -31,7 +33,7 @@ returns c = cells-short _ _ _ _ _ _ (c .before .before .before .before .before .
 
 -- src/lib.rt:97:9
 cell-count-requires : tie.Need-cell-count-requires
-cell-count-requires c κs = (c .before .before .before .before .pre .0, sym (c .before .is-lent .ensures) ∙ not-false _ (c .if1 .left))
+cell-count-requires c κs = (alphabet-sizes _ (c .before .before .before .before .pre .0) .1, lent-in _ _ _ (sym (c .before .is-lent .ensures) ∙ not-false _ (c .if1 .left)) .1)
 
 -- src/lib.rt:98:11
 skip-requires : tie.Need-skip-requires
