@@ -40,20 +40,21 @@ use Rattle.theory.proofs.TableRefusalLaws.{
   points-small,
 }
 use Rattle.cells.specs.Filled.{filled}
-use Rattle.refusals.specs.Given.{given, givenAs}
+use Rattle.refusals.specs.Given.{given, givenAs, foundAs}
 use Rattle.refusals.specs.declared.Refusal.{Refusal}
+use Rattle.refusals.specs.declared.Found.{Found}
+use Rattle.refusals.specs.declared.Found.the-variants.{Cause, Nothing}
+use Rattle.refusals.proofs.FoundLaws.{not-found, found-cause}
 use Rattle.tables.specs.Walks.{walkedAs}
 use Rattle.tables.specs.declared.Walked.{Walked}
 use Rattle.tables.specs.declared.Walked.the-variants.{Faulty, Sound}
 use Rattle.tables.proofs.WalkLaws.{walk-sound, walk-faulty}
 use Rattle.paths.specs.Paths.{Ready, PathsOutcome}
 use Rattle.bases.specs.Words.{Pathed, basisIn, textOf, sizeIn}
-use Rattle.bases.specs.Bases.{basisWords, basisText, BasisCause, earlyRefusal, basisRefusal, foundAs, answerFor, workFor, outFor, BasisOutcome}
+use Rattle.bases.specs.Bases.{basisWords, basisText, BasisCause, earlyRefusal, basisRefusal, answerFor, workFor, outFor, BasisOutcome}
 use Rattle.bases.specs.declared.Size.{Size}
 use Rattle.bases.specs.declared.BasisAnswer.{BasisAnswer}
 use Rattle.bases.specs.declared.BasisAnswer.the-variants.{Refused, Written}
-use Rattle.bases.specs.declared.Found.{Found}
-use Rattle.bases.specs.declared.Found.the-variants.{Cause, Nothing}
 use Rattle.bases.proofs.SpotLaws.{basis-scan}
 
 -- ── Refusals 1, 6, 7, 8 ──
@@ -150,19 +151,15 @@ module _ (n N : ℕ) (t work out : List ℕ) where
   pub early-refused : {f : Found} {r : Refusal} → f ≡ foundAs (earlyRefusal n N t (length work) none) → f ≡ Cause r
       → BasisOutcome n N t work out (Refused r) work out
   unfolding basisRefusal
-  early-refused {f} {r} e g = go (earlyRefusal n N t (length work) none) refl (sym g ∙ e) (early-not9 n N t (length work))
+  early-refused {f} {r} e g =
+      let a = found-cause (earlyRefusal n N t (length work) none) (sym g ∙ e) in
+      go (a .0) (a .1) (a .2) (subst Not9 (a .1) (early-not9 n N t (length work)))
     where
-      go : (o : Option FirstCause) → earlyRefusal n N t (length work) none ≡ o → Cause r ≡ foundAs o → Not9 o → BasisOutcome n N t work out (Refused r) work out
-      go none q z m = absurd (let y : _≡_ {A = ℕ} 0 1 = cc in omega arith)
-      go (some k) q z m =
-          told (some k) (early-else n N t (length work) late ∙ ap (λ o. orElse o late) q) (ap Refused (let y : r ≡ given k = cc in y)) (sym (rw m)) refl
+      go : (k : FirstCause) → earlyRefusal n N t (length work) none ≡ some k → r ≡ given k → Not9 (some k) → BasisOutcome n N t work out (Refused r) work out
+      go k q z m = told (some k) (early-else n N t (length work) late ∙ ap (λ o. orElse o late) q) (ap Refused z) (sym (rw m)) refl
 
   pub early-none : {f : Found} → f ≡ foundAs (earlyRefusal n N t (length work) none) → f ≡ Nothing → earlyRefusal n N t (length work) none ≡ none
-  early-none {f} e g = go (earlyRefusal n N t (length work) none) (sym g ∙ e)
-    where
-      go : (o : Option FirstCause) → Nothing ≡ foundAs o → o ≡ none
-      go none z = refl
-      go (some k) z = absurd (let y : _≡_ {A = ℕ} 0 1 = cc in omega arith)
+  early-none e g = not-found (earlyRefusal n N t (length work) none) (sym g ∙ e)
 
   -- the text of all spots is that of the basis
   pub whole-text : textOf (cell n N t) N (usual n) (scan N (usual n)) ≡ basisText n N t

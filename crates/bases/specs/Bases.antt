@@ -22,8 +22,6 @@ use Rattle.cells.specs.Filled.{filled}
 use Rattle.refusals.specs.Given.{given}
 use Rattle.bases.specs.declared.BasisAnswer.{BasisAnswer}
 use Rattle.bases.specs.declared.BasisAnswer.the-variants.{Refused, Written}
-use Rattle.bases.specs.declared.Found.{Found}
-use Rattle.bases.specs.declared.Found.the-variants.{Cause, Nothing}
 
 -- the basis words, in document 01's order
 abbrev pub basisWords : ℕ → ℕ → List ℕ → List (List ℕ)
@@ -49,10 +47,6 @@ earlyRefusal n N t room late =
 unfoldable pub basisRefusal : ℕ → ℕ → List ℕ → ℕ → ℕ → Option FirstCause
 basisRefusal n N t room space =
     earlyRefusal n N t room (refusedIf (ltb space (length (basisText n N t))) 9 (length (basisText n N t)))
-
-abbrev pub foundAs : Option FirstCause → Found
-foundAs none = Nothing
-foundAs (some r) = Cause (given r)
 
 abbrev pub answerFor : ℕ → ℕ → List ℕ → Option FirstCause → BasisAnswer
 answerFor n N t none = Written (length (basisWords n N t)) (length (basisText n N t))

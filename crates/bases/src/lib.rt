@@ -10,9 +10,11 @@ ghost use Rattle.theory.specs.Words.{inv};
 ghost use Rattle.theory.specs.Letters.{usual, byteOf};
 ghost use Rattle.theory.specs.Tables.{cell};
 ghost use Rattle.theory.specs.Basis.{spotsOf, scan};
+ghost use Rattle.refusals.specs.Given.{foundAs};
 ghost use Rattle.bases.specs.Chains.{isNotedStep, depthOf, Chain, Linked, pathBytes, backBytes, loopBytes};
 ghost use Rattle.bases.specs.Words.{Pathed, AtSpot, isOutside, textOf, grown, sizeIn, Small};
-ghost use Rattle.bases.specs.Bases.{earlyRefusal, foundAs, BasisOutcome};
+ghost use Rattle.bases.specs.Bases.{earlyRefusal, BasisOutcome};
+use refusals::Found;
 use refusals::Refusal;
 use tables::Subgroup;
 use tables::Walked;
@@ -27,12 +29,6 @@ pub enum BasisAnswer {
 struct Size {
     words: u64,
     bytes: u64,
-}
-
-// Whether a cause applies.
-pub enum Found {
-    Cause(Refusal),
-    Nothing,
 }
 
 // The absent mark.

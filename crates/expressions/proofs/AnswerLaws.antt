@@ -29,18 +29,18 @@ use Rattle.theory.proofs.PlaceLaws.{passes-fails}
 use Rattle.theory.proofs.RefusalLaws.{refusal-none}
 use Rattle.theory.proofs.TableRefusalLaws.{in-lent, member-refusal-first}
 use Rattle.cells.specs.Filled.{filled}
-use Rattle.refusals.specs.Given.{givenAs}
+use Rattle.refusals.specs.Given.{givenAs, foundAs}
 use Rattle.refusals.specs.declared.Refusal.{Refusal}
+use Rattle.refusals.specs.declared.Found.{Found}
+use Rattle.refusals.specs.declared.Found.the-variants.{Cause}
+use Rattle.refusals.proofs.FoundLaws.{found-cause}
 use Rattle.words.specs.Reduction.{ReducedInto}
 use Rattle.words.specs.declared.Reduced.{Reduced}
 use Rattle.members.specs.Readings.{readAs, readingAs}
 use Rattle.members.specs.Members.{queryWord}
-use Rattle.members.specs.Stages.{foundAs}
 use Rattle.members.specs.declared.Reading.{Reading}
 use Rattle.members.specs.declared.Reading.the-variants.{Stopped, Ended}
-use Rattle.members.specs.declared.Found.{Found}
-use Rattle.members.specs.declared.Found.the-variants.{Cause}
-use Rattle.members.proofs.AnswerLaws.{found-cause, alphabet-of, fine, letters-left, cells-behind}
+use Rattle.members.proofs.AnswerLaws.{alphabet-of, fine, letters-left, cells-behind}
 use Rattle.edges.specs.Edges.{Sound, marksOf}
 use Rattle.expressions.specs.Places.{placesOf, numbered, AllAtEdge, Readable}
 use Rattle.expressions.specs.Parts.{isHome, notesOf, inFront, Marked, wordAnswer, wordOut, markedWork, WordOutcome}

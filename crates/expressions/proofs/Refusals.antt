@@ -2,48 +2,32 @@
 --   express-refusal-first : a number at a place exactly if that is the first cause that applies
 --   express-refusal-none  : none exactly if no cause applies
 -- Assumes nothing.
-use mathlib.Core.Path.{_≡_, refl, sym, _∙_, ap}
+use mathlib.Core.Path.{_≡_, refl, ap}
 use mathlib.Core.Logic.{⊎-elim, _↔_}
 use mathlib.Core.Bool.{false, _&&_}
-use mathlib.Core.Option.{Option, none, some, Option·some-injective}
+use mathlib.Core.Option.{none, some}
 use mathlib.Core.List.{List}
 use Prim.Native.Nat.{ℕ}
 use native.Mathlib.Omega.{arith}
 use lib.Dec.{ltb}
 use lib.ListN.{length}
 use borrow.Author.Tests.{lt-ltb, ltb-true}
-use Rattle.theory.specs.Refusals.{Refusal as FirstCause, turn, First}
-use Rattle.theory.specs.TableRefusals.{MemberCause, memberRefusal}
+use Rattle.theory.specs.Refusals.{turn, First}
 use Rattle.theory.specs.Tables.{cell}
 use Rattle.theory.proofs.RefusalLaws.{and-true, text-turn}
 use Rattle.theory.proofs.ReadLaws.{isAccepted-sound, isAccepted-complete}
-use Rattle.theory.proofs.TableRefusalLaws.{Verdict, Decides, decided-first, decided-none, join, only-if, member-refusal-first, member-refusal-none}
+use Rattle.theory.proofs.TableRefusalLaws.{Decides, decided-first, decided-none, join, only-if, member-decides}
 use Rattle.members.specs.Members.{queryWord}
 use Rattle.expressions.specs.Expressions.{isInside, numbersOf, ExpressCause, expressRefusal}
 
 module _ (n N : ℕ) (t query : List ℕ) (room space : ℕ) where
-  -- 1 to 8 are those of a member's query
-  member-decides : Decides (MemberCause n N t query room) (memberRefusal n N t query room)
-  member-decides =
-      record {
-        verdict = at (memberRefusal n N t query room) refl;
-        one = λ k l p a b. ap (λ (r : FirstCause). r .number) (Option·some-injective _ _ (sym (first k p .1 a) ∙ first l p .1 b));
-      }
-    where
-      first : (k p : ℕ) → (memberRefusal n N t query room ≡ some (record { number = k; place = p })) ↔ First (MemberCause n N t query room) k p
-      first = member-refusal-first n N t query room
-
-      at : (o : Option FirstCause) → memberRefusal n N t query room ≡ o → Verdict (MemberCause n N t query room) o
-      at none e = member-refusal-none n N t query room .0 e
-      at (some r) e = first (r .number) (r .place) .0 e
-
   express-decides : Decides (ExpressCause n N t query room space) (expressRefusal n N t query room space)
   unfolding expressRefusal
   express-decides =
       join (λ k p l q a b. ⊎-elim (λ x. omega (arith, text-turn n false query k p x, ap turn (b .0)))
       (⊎-elim (λ x. omega (arith, ap turn (x .0), ap turn (b .0)))
       (⊎-elim (λ x. omega (arith, ap turn (x .0), ap turn (b .0))) (λ x. omega (arith, ap turn (x .0), ap turn (b .0))))) a)
-      member-decides
+      (member-decides n N t query room)
       (λ _. only-if 9 (isInside n N t query && ltb space (length (numbersOf n N t query))) (length (numbersOf n N t query))
       (λ e. let a = and-true (isInside n N t query) (ltb space (length (numbersOf n N t query))) e in
       (isAccepted-sound (cell n N t) (queryWord query) (a .0), (refl, ltb-true space (length (numbersOf n N t query)) (a .1))))

@@ -12,8 +12,8 @@ ghost use Rattle.edges.specs.Edges.{Sound};
 ghost use Rattle.expressions.specs.Expressions.{ExpressOutcome};
 ghost use Rattle.expressions.specs.Places.{signedBy, placeOf, placed, placesOf, numbered, AtEdge, AllAtEdge, Readable};
 ghost use Rattle.expressions.specs.Parts.{isHome, notesOf, inFront, Marked, markedWork, WordOutcome};
-use members::Found;
 use members::Reading;
+use refusals::Found;
 use refusals::Refusal;
 use tables::Subgroup;
 

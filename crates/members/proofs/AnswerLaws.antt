@@ -38,8 +38,11 @@ use Rattle.theory.proofs.StartLaws.{reduced-shorter}
 use Rattle.theory.proofs.CanonicalLaws.{table-none-canonical}
 use Rattle.theory.proofs.TableRefusalLaws.{else-none, unrefused, no-cell, lent-in, text-alphabet}
 use Rattle.cells.specs.Filled.{filled}
-use Rattle.refusals.specs.Given.{given, givenAs}
+use Rattle.refusals.specs.Given.{given, givenAs, foundAs}
 use Rattle.refusals.specs.declared.Refusal.{Refusal}
+use Rattle.refusals.specs.declared.Found.{Found}
+use Rattle.refusals.specs.declared.Found.the-variants.{Cause, Nothing}
+use Rattle.refusals.proofs.FoundLaws.{not-found, found-cause}
 use Rattle.words.specs.Reduction.{reducedCells, ReducedInto}
 use Rattle.words.specs.declared.Reduced.{Reduced}
 use Rattle.words.proofs.ReduceTurn.{cells-kept}
@@ -52,13 +55,11 @@ use Rattle.tables.specs.declared.Walked.the-variants.{Faulty, Sound}
 use Rattle.tables.proofs.WalkLaws.{walk-sound, walk-faulty}
 use Rattle.members.specs.Readings.{readAs, readingAs}
 use Rattle.members.specs.Members.{queryWord, answerFor, answerAs, cellsFor, cellsAfter, MemberOutcome}
-use Rattle.members.specs.Stages.{answerOf, foundAs, lateCause, tableRefusal}
+use Rattle.members.specs.Stages.{answerOf, lateCause, tableRefusal}
 use Rattle.members.specs.declared.Reading.{Reading}
 use Rattle.members.specs.declared.Reading.the-variants.{Ended}
 use Rattle.members.specs.declared.Answer.{Answer}
 use Rattle.members.specs.declared.Answer.the-variants.{Refused, Inside, Outside}
-use Rattle.members.specs.declared.Found.{Found}
-use Rattle.members.specs.declared.Found.the-variants.{Cause, Nothing}
 
 -- ── The word of a query ──
 
@@ -124,15 +125,6 @@ pub answer-away : {r : Reading} {v : ℕ} → r ≡ Ended v → (v ≡ 0 → ⊥
 answer-away {r} {v} e z = sym (ap answerOf e ∙ ap (λ b. cond b Inside Outside) (ne-eqb v 0 z))
 
 -- ── One cause ──
-
-not-found : (o : Option FirstCause) → Nothing ≡ foundAs o → o ≡ none
-not-found none e = refl
-not-found (some c) e = absurd (let z : _≡_ {A = ℕ} 0 1 = cc in omega arith)
-
--- a cause found is the refusal that there is
-pub found-cause : (o : Option FirstCause) {r : Refusal} → Cause r ≡ foundAs o → (c : FirstCause) × (o ≡ some c) × (r ≡ given c)
-found-cause none e = absurd (let z : _≡_ {A = ℕ} 0 1 = cc in omega arith)
-found-cause (some c) {r} e = (c, refl, cc)
 
 module _ (k n N : ℕ) (t : List ℕ) (needed room : ℕ) where
   pub late-short : {r : Refusal} → k ≡ 7 → room < needed → r ≡ givenAs 7 needed → Cause r ≡ foundAs (lateCause k n N t needed room)

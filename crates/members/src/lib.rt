@@ -9,10 +9,12 @@ ghost use Rattle.theory.specs.Refusals.{isAlphabet};
 ghost use Rattle.theory.specs.TableRefusals.{isLent, memberRefusal};
 ghost use Rattle.theory.specs.Tables.{cell};
 ghost use Rattle.theory.specs.Canonical.{Canonical};
+ghost use Rattle.refusals.specs.Given.{foundAs};
 ghost use Rattle.members.specs.Readings.{readingAs};
 ghost use Rattle.members.specs.Members.{MemberOutcome};
-ghost use Rattle.members.specs.Stages.{answerOf, foundAs, lateCause, tableRefusal};
+ghost use Rattle.members.specs.Stages.{answerOf, lateCause, tableRefusal};
 use lists::Scanned;
+use refusals::Found;
 use refusals::Refusal;
 use tables::Subgroup;
 use tables::Walked;
@@ -34,12 +36,6 @@ pub enum Answer {
     Refused(Refusal),
     Inside,
     Outside,
-}
-
-// Whether a cause applies.
-pub enum Found {
-    Cause(Refusal),
-    Nothing,
 }
 
 // The absent mark.

@@ -17,11 +17,12 @@ use Rattle.theory.specs.Tables.{absent, cell}
 use Rattle.theory.specs.Basis.{isNormal}
 use Rattle.theory.proofs.TableRefusalLaws.{Decides, decided-first, decided-none, join, alphabet-decides, lent-decides, short-decides, cells-decide, points-small}
 use Rattle.cells.specs.Filled.{filled}
-use Rattle.refusals.specs.Given.{given}
+use Rattle.refusals.specs.Given.{foundAs}
 use Rattle.refusals.specs.declared.Refusal.{Refusal}
-use Rattle.bases.specs.Bases.{earlyRefusal, foundAs}
-use Rattle.bases.specs.declared.Found.{Found}
-use Rattle.bases.specs.declared.Found.the-variants.{Cause}
+use Rattle.refusals.specs.declared.Found.{Found}
+use Rattle.refusals.specs.declared.Found.the-variants.{Cause}
+use Rattle.refusals.proofs.FoundLaws.{found-cause}
+use Rattle.bases.specs.Bases.{earlyRefusal}
 use Rattle.normals.specs.Normals.{NormalCause, normalRefusal, judgedFor, workFor, NormalOutcome}
 use Rattle.normals.specs.declared.Judged.{Judged}
 use Rattle.normals.specs.declared.Judged.the-variants.{Refused, Normal, Other}
@@ -35,11 +36,8 @@ module _ (n N : ℕ) (t work : List ℕ) where
   pub refused : {f : Found} {r : Refusal} → f ≡ foundAs (earlyRefusal n N t (length work) none) → f ≡ Cause r
       → NormalOutcome n N t work (Refused r) work
   unfolding normalRefusal
-  refused {f} {r} e g = go (earlyRefusal n N t (length work) none) refl (sym g ∙ e)
-    where
-      go : (o : Option FirstCause) → earlyRefusal n N t (length work) none ≡ o → Cause r ≡ foundAs o → NormalOutcome n N t work (Refused r) work
-      go none q z = absurd (let y : _≡_ {A = ℕ} 0 1 = cc in omega arith)
-      go (some k) q z = told (some k) q (ap Refused (let y : r ≡ given k = cc in y)) refl
+  refused e g =
+      let a = found-cause (earlyRefusal n N t (length work) none) (sym g ∙ e) in told (some (a .0)) (a .1) (ap Refused (a .2)) refl
 
   module _ (fine : earlyRefusal n N t (length work) none ≡ none) {b : Bool} (e : b ≡ isNormal (cell n N t) N (usual n))
       {after : List ℕ} (d : after ≡ filled (4 * N) 0 work) where

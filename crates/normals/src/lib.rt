@@ -11,7 +11,7 @@ ghost use Rattle.paths.specs.Paths.{Ready};
 ghost use Rattle.bases.specs.Bases.{earlyRefusal};
 ghost use Rattle.normals.specs.Maps.{Carrying, carriedMet, carriedCells, passesBase};
 ghost use Rattle.normals.specs.Normals.{NormalOutcome};
-use bases::Found;
+use refusals::Found;
 use refusals::Refusal;
 use tables::Subgroup;
 

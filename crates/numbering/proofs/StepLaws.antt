@@ -8,7 +8,7 @@ use mathlib.Core.List.{List}
 use Prim.Native.Nat.{ℕ, _*_, _<_}
 use native.Mathlib.Omega.{arith}
 use Rattle.theory.specs.Words.{inv}
-use Rattle.theory.specs.Tables.{absent, Cells, cell}
+use Rattle.theory.specs.Tables.{Cells, cell}
 use Rattle.theory.proofs.TableLaws.{cell-bounded}
 use Rattle.theory.proofs.OneTable.{leads-here}
 use Rattle.engine.specs.Work.{Holds}

@@ -7,6 +7,12 @@ pub struct Refusal {
     pub place: u64,
 }
 
+// Whether a cause applies.
+pub enum Found {
+    Cause(Refusal),
+    Nothing,
+}
+
 // The refusal of this number at this place.
 pub fn refuse(number: u64, place: u64) -> Refusal
     ensures made { λ r. ⌜ r ≡ givenAs number place ⌝ }

@@ -9,7 +9,6 @@ use mathlib.Core.Logic.{_⊎_, inl, inr, ⊎-elim, by-cases}
 use mathlib.Core.Bool.{Bool, true, false, not, _&&_, _||_, true≢false}
 use mathlib.Core.Option.{Option, none, some}
 use Prim.Native.Nat.{ℕ, zero, suc, _+_, _*_, _≤_, _<_}
-use native.Mathlib.Nat.{suc-mul, mul-le-mul-right}
 use native.Mathlib.Decide.{ℕ-discrete, decLt}
 use native.Mathlib.Omega.{arith}
 use lib.Dec.{eqb, ltb, leb}
@@ -17,6 +16,7 @@ use borrow.Author.Tests.{eq-eqb, eqb-true, lt-ltb, ltb-true, le-leb, leb-true, n
 use Rattle.theory.specs.Canonical.{orThis, least, Place, isSome, inRow, firstPlace}
 use Rattle.theory.proofs.WordLaws.{byTest}
 use Rattle.theory.proofs.RefusalLaws.{and-true}
+use Rattle.theory.proofs.TableLaws.{row-below}
 
 -- a test does not both pass and fail
 pub passes-fails : {C : Type 0} {b : Bool} → b ≡ true → b ≡ false → C
@@ -128,10 +128,6 @@ least-is-none f k h = go (least f k) refl
 
 -- ── The first place ──
 
--- a row of w cells ends where the next begins
-row-below : (w u v : ℕ) → u < v → u * w + w ≤ v * w
-row-below w u v h = omega (arith, mul-le-mul-right w h, suc-mul u w)
-
 abbrev pub ComesBefore : ℕ → ℕ → ℕ → ℕ → Type 0
 ComesBefore u j v i = (u < v) ⊎ ((u ≡ v) × (j < i))
 
@@ -153,13 +149,13 @@ before-row u j v i b = ⊎-elim (λ h. omega arith) (λ h. omega arith) b
 -- in rows of w cells, to come before is to stand at a lower position
 pub position-of-before : (w u j v i : ℕ) → j < w → ComesBefore u j v i → u * w + j < v * w + i
 position-of-before w u j v i h b =
-    ⊎-elim (λ a. omega (arith, row-below w u v a)) (λ a. omega (arith, ap (λ z. z * w) (a .0))) b
+    ⊎-elim (λ a. omega (arith, row-below v w u a)) (λ a. omega (arith, ap (λ z. z * w) (a .0))) b
 
 -- and the other way round
 pub before-of-position : (w u j v i : ℕ) → i < w → u * w + j < v * w + i → ComesBefore u j v i
 before-of-position w u j v i h b =
     by-cases (decLt u v) inl
-    (λ n. by-cases (decLt v u) (λ a. absurd (omega (arith, row-below w v u a)))
+    (λ n. by-cases (decLt v u) (λ a. absurd (omega (arith, row-below u w v a)))
     (λ m. let e : u ≡ v = omega arith in inr (e, omega (arith, ap (λ z. z * w) e))))
 
 pub record IsFirst (f : ℕ → ℕ → Bool) (N w v i : ℕ) : Type 0 where

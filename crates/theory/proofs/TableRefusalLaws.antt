@@ -300,7 +300,7 @@ module _ (n N : ℕ) (t : List ℕ) where
 -- ── `member` ──
 
 module _ (n N : ℕ) (t query : List ℕ) (room : ℕ) where
-  member-decides : Decides (MemberCause n N t query room) (memberRefusal n N t query room)
+  pub member-decides : Decides (MemberCause n N t query room) (memberRefusal n N t query room)
   unfolding memberRefusal
   member-decides =
       join (λ k p l q a b.

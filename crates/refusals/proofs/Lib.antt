@@ -1,0 +1,2 @@
+-- Laws of a refusal as code holds it.
+pub mod FoundLaws
