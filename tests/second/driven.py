@@ -20,7 +20,7 @@ from second.expressed import finite_calls, refused_expressions  # noqa: E402
 from second.filed import (damaged_calls_of_files, huge_calls, long_text_calls, random_file_calls,  # noqa: E402
                           refused_lists)
 from second.folding import fold_words, fold_words_quickly  # noqa: E402
-from second.lists import KINDS, long_list, padded, some_list  # noqa: E402
+from second.lists import KINDS, long_list, longest_list, padded, some_list  # noqa: E402
 from second.stored import INPUT, OUTPUT, head, lent, needed, reply_items  # noqa: E402
 from second.words import (MOST_BYTES, Refused, inverse, letter_count, spell,  # noqa: E402
                           words_of)
@@ -68,6 +68,9 @@ def good_folds(chance):
         yield n, text, table + more(chance), work + more(chance)
     for n in (2, 3, chance.randint(4, 26)):
         text = long_list(chance, chance.choice(KINDS[:-1]), n, 200, 2000, 5000)
+        yield n, text, *needed(n, text)
+    for n, kinds in ((2, KINDS[:1]), (3, KINDS[:-1])):
+        text = longest_list(chance, kinds, n)
         yield n, text, *needed(n, text)
     yield 2, b"\n" * MOST_BYTES, 4, 8
 

@@ -4,7 +4,7 @@ The most letters count as written, and the words need not be reduced.
 """
 
 from .corpus import random_word, random_words
-from .words import inverse, inverse_letter, letter_count, list_text, spell
+from .words import MOST_BYTES, inverse, inverse_letter, letter_count, list_text, spell
 
 
 def padded(chance, n, letters, most):
@@ -112,3 +112,14 @@ def product(chance, n, words):
         factor = chance.choice(words)
         letters += factor if chance.random() < 0.5 else inverse(factor)
     return spell(padded(chance, n, letters, len(letters) + 6))
+
+
+def longest_list(chance, kinds, n):
+    """A list text of nearly as many bytes as a list may have, of all these kinds."""
+    parts, size = [], 0
+    while True:
+        part = list_text(chance.choice(kinds)(chance, n, 200, 200))
+        if size + len(part) > MOST_BYTES:
+            return b"".join(parts)
+        parts.append(part)
+        size += len(part)
