@@ -13,13 +13,12 @@ use Rattle.inputs.proofs.Determined.{parse-determined}
 use Rattle.inputs.specs.declared.Parsed.{Parsed}
 use Rattle.inputs.specs.declared.Parsed.the-variants.{BadInput, Refused, Accepted}
 use Rattle.normals.proofs.Determined.{normal-determined}
-use Rattle.printer.specs.Printed.{
+use Rattle.printer.specs.LentCells.{
   BasisRun,
-  Lent,
   lent,
   afterQueries,
   Buffers,
-  buffers,
+  buffersOf,
   TableAsked,
   AfterFold,
   ListDone,
@@ -52,10 +51,10 @@ print-list-determined n list queries b {b₁} {b₂} h k = go (k .folded) _ move
     same : (h .folded ≡ k .folded) × (h .foldTable ≡ k .foldTable) × (h .foldWork ≡ k .foldWork)
     same = fold-determined n list (b .table) (b .work) (h .fold) (k .fold)
 
-    moved : AfterFold (k .folded) n queries (buffers (b .basis) (k .foldTable) (k .foldWork) (b .numbers)) b₁
+    moved : AfterFold (k .folded) n queries (buffersOf (b .basis) (k .foldTable) (k .foldWork) (b .numbers)) b₁
     moved =
-        subst (λ c. AfterFold (k .folded) n queries c b₁) (λ i. buffers (b .basis) (same .1 i) (same .2 i) (b .numbers))
-        (subst (λ x. AfterFold x n queries (buffers (b .basis) (h .foldTable) (h .foldWork) (b .numbers)) b₁) (same .0) (h .after))
+        subst (λ c. AfterFold (k .folded) n queries c b₁) (λ i. buffersOf (b .basis) (same .1 i) (same .2 i) (b .numbers))
+        (subst (λ x. AfterFold x n queries (buffersOf (b .basis) (h .foldTable) (h .foldWork) (b .numbers)) b₁) (same .0) (h .after))
 
     go : (x : Folded) (c : Buffers) → AfterFold x n queries c b₁ → AfterFold x n queries c b₂ → b₁ ≡ b₂
     go (FoldRefused r) c p q = p ∙ sym q

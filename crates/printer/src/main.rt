@@ -4,7 +4,7 @@ ghost use mathlib.Core.Path.{_≡_};
 ghost use Prim.Native.Nat.{_≤_};
 ghost use lib.ListN.{length, take};
 ghost use Rattle.inputs.specs.Parsed.{walkedFrom};
-ghost use Rattle.printer.specs.Printed.{BasisRun, lent, afterQuery, afterQueries, buffers, ListDone, InputDone};
+ghost use Rattle.printer.specs.LentCells.{BasisRun, lent, afterQuery, afterQueries, buffersOf, ListDone, InputDone};
 use bases::BasisAnswer;
 use expressions::Expressed;
 use folds::FoldFigures;
@@ -164,7 +164,7 @@ fn print_list(
     expression: &mut [i32],
 )
     requires { ⌜ list ≤ length (now input) ⌝ }
-    ensures done { λ _. ⌜ ListDone n (take list (now (input .entry))) (walkedFrom (length (now (input .entry))) (now (input .entry)) queries) (buffers (now (basis .entry)) (now (table .entry)) (now (work .entry)) (now (expression .entry))) (buffers (now (basis .exit)) (now (table .exit)) (now (work .exit)) (now (expression .exit))) ⌝ }
+    ensures done { λ _. ⌜ ListDone n (take list (now (input .entry))) (walkedFrom (length (now (input .entry))) (now (input .entry)) queries) (buffersOf (now (basis .entry)) (now (table .entry)) (now (work .entry)) (now (expression .entry))) (buffersOf (now (basis .exit)) (now (table .exit)) (now (work .exit)) (now (expression .exit))) ⌝ }
 {
     match folds::fold(n, &input[..list], table, work) {
         Folded::Refused(r) => prints::refused(r),
@@ -188,7 +188,7 @@ fn print_input(
     work: &mut [u32],
     expression: &mut [i32],
 )
-    ensures done { λ _. ⌜ InputDone (now (input .entry)) (buffers (now (basis .entry)) (now (table .entry)) (now (work .entry)) (now (expression .entry))) (now (input .exit)) (buffers (now (basis .exit)) (now (table .exit)) (now (work .exit)) (now (expression .exit))) ⌝ }
+    ensures done { λ _. ⌜ InputDone (now (input .entry)) (buffersOf (now (basis .entry)) (now (table .entry)) (now (work .entry)) (now (expression .entry))) (now (input .exit)) (buffersOf (now (basis .exit)) (now (table .exit)) (now (work .exit)) (now (expression .exit))) ⌝ }
 {
     match inputs::parse(input) {
         Parsed::BadInput => prints::text(b"bad input\n"),

@@ -1,4 +1,4 @@
--- `printer::print_basis` meets its contract: what was written stands inside the output (`PrintLaws`).
+-- `printer::print_basis` meets its contract: what was written stands inside the output (`PrintLaws`), and the cells are those that `basis` leaves.
 -- Assumes nothing.
 use native.Mathlib.Omega.{arith}
 use lib.ListN.{length-take}

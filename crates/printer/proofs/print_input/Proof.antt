@@ -1,6 +1,6 @@
--- `printer::print_input` meets its contract: the list stands inside the input (`PrintLaws`).
+-- `printer::print_input` meets its contract: the list stands inside the input (`PrintLaws`), and each answer of `parse` leaves its cells (`LentLaws`).
 -- Assumes nothing.
-use Rattle.printer.proofs.PrintedLaws.{input-bad, input-refused, input-accepted}
+use Rattle.printer.proofs.LentLaws.{input-bad, input-refused, input-accepted}
 use Rattle.printer.proofs.PrintLaws.{list-inside}
 use borrow.Author.Needs.{needs}
 use Rattle.printer.proofs.print_input.Statement.{statement}

@@ -1,6 +1,6 @@
--- `printer::print_list` meets its contract: the list stands inside the input.
+-- `printer::print_list` meets its contract: the list stands inside the input, and `LentLaws` puts the cells of its parts together.
 -- Assumes nothing.
-use Rattle.printer.proofs.PrintedLaws.{list-refused, list-made}
+use Rattle.printer.proofs.LentLaws.{list-refused, list-made}
 use native.Mathlib.Omega.{arith}
 use lib.ListN.{length-take}
 use borrow.Author.Needs.{needs}

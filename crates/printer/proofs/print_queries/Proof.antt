@@ -1,7 +1,7 @@
--- `printer::print_queries` meets its contract. The loop goes from query to query (`inputs`: `Queries`).
+-- `printer::print_queries` meets its contract. The loop goes from query to query (`inputs`: `Queries`); what is still to come leaves what all leave (`LentLaws`).
 -- Assumes nothing.
-use Rattle.printer.specs.Printed.{lent}
-use Rattle.printer.proofs.PrintedLaws.{Queried, queried-first, queried-turn, queried-ended, none-behind}
+use Rattle.printer.specs.LentCells.{lent}
+use Rattle.printer.proofs.LentLaws.{Queried, queried-first, queried-turn, queried-ended, none-behind}
 use mathlib.Core.Path.{_≡_, refl, sym, _∙_}
 use Prim.Native.Nat.{_-_}
 use native.Mathlib.Omega.{arith}

@@ -1,6 +1,6 @@
--- `printer::print_query` meets its contract: an expression stands inside the output (`PrintLaws`).
+-- `printer::print_query` meets its contract: an expression stands inside the output (`PrintLaws`), and the cells are those that `express` leaves (`LentLaws`).
 -- Assumes nothing.
-use Rattle.printer.proofs.PrintedLaws.{query-done}
+use Rattle.printer.proofs.LentLaws.{query-done}
 use native.Mathlib.Omega.{arith}
 use lib.ListN.{length-take}
 use Rattle.printer.proofs.PrintLaws.{numbers-inside}

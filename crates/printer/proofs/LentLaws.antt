@@ -21,19 +21,18 @@ use Rattle.refusals.specs.declared.Refusal.{Refusal}
 use Rattle.inputs.specs.Inputs.{linesOf, laterLines, listOf, queriesOf}
 use Rattle.inputs.specs.declared.Parsed.{Parsed}
 use Rattle.inputs.specs.declared.Parsed.the-variants.{BadInput, Refused, Accepted}
-use Rattle.inputs.specs.declared.Query.{Query}
 use Rattle.inputs.specs.declared.Query.the-variants.{Asked, Ended}
-use Rattle.inputs.specs.Parsed.{bytesAfter, ParsedInto, queryAs, queryAt, walkedOn, walkedFrom}
+use Rattle.inputs.specs.Parsed.{ParsedInto, queryAs, queryAt, walkedOn, walkedFrom}
 use Rattle.inputs.proofs.Queries.{query-fits, parse-list, parse-queries}
-use Rattle.printer.specs.Printed.{
+use Rattle.printer.specs.LentCells.{
   BasisRun,
   NormalRun,
-  Lent,
+  QueryCells,
   lent,
   afterQuery,
   afterQueries,
   Buffers,
-  buffers,
+  buffersOf,
   TableAsked,
   AfterFold,
   ListDone,
@@ -49,16 +48,16 @@ unfolding afterQuery
 query-done n N t query work out o = λ i. record { work = o .cells i; numbers = o .numbers i }
 
 -- at most `lines` lines are still to come
-pub record Queried (n N : ℕ) (t input : List ℕ) (from : ℕ) (first now : Lent) (at : ℕ) : Type 0 where
+pub record Queried (n N : ℕ) (t input : List ℕ) (from : ℕ) (first now : QueryCells) (at : ℕ) : Type 0 where
   pub lines : ℕ
   pub enough : length input ≤ at + lines
   pub left : afterQueries n N t (walkedFrom lines input at) now ≡ afterQueries n N t (walkedFrom (length input) input from) first
 
-pub queried-first : (n N : ℕ) (t input : List ℕ) (from : ℕ) (first : Lent) → Queried n N t input from first first from
+pub queried-first : (n N : ℕ) (t input : List ℕ) (from : ℕ) (first : QueryCells) → Queried n N t input from first first from
 queried-first n N t input from first = record { lines = length input; enough = omega arith; left = refl }
 
-module _ {n N : ℕ} {t input : List ℕ} {from : ℕ} {first now : Lent} {at : ℕ} (q : Queried n N t input from first now at) where
-  pub queried-turn : {start size next : ℕ} {after : Lent} → at < length input → Asked start size next ≡ queryAt input at
+module _ {n N : ℕ} {t input : List ℕ} {from : ℕ} {first now : QueryCells} {at : ℕ} (q : Queried n N t input from first now at) where
+  pub queried-turn : {start size next : ℕ} {after : QueryCells} → at < length input → Asked start size next ≡ queryAt input at
       → after ≡ afterQuery n N t (take (start + size - start) (drop start input)) now → Queried n N t input from first after next
   unfolding walkedFrom afterQueries
   queried-turn {start} {size} {next} {after} l e a = go (q .lines) (q .enough) (q .left)
@@ -96,30 +95,30 @@ none-behind input at h = sym (ap (λ x. queryAs at (linesOf x)) (drop-of-length-
 module _ (n : ℕ) (list : List ℕ) (queries : List (List ℕ)) (basis table work : List ℕ) (numbers : List ℤ) {folded : Folded} {table′ work′ : List ℕ}
     (o : FoldOutcome n list table work folded table′ work′) where
   pub list-refused : {r : Refusal} → folded ≡ FoldRefused r
-      → ListDone n list queries (buffers basis table work numbers) (buffers basis table′ work′ numbers)
+      → ListDone n list queries (buffersOf basis table work numbers) (buffersOf basis table′ work′ numbers)
   list-refused e =
       record {
         folded = folded;
         foldTable = table′;
         foldWork = work′;
         fold = o;
-        after = subst (λ x. AfterFold x n queries (buffers basis table′ work′ numbers) (buffers basis table′ work′ numbers)) (sym e) refl;
+        after = subst (λ x. AfterFold x n queries (buffersOf basis table′ work′ numbers) (buffersOf basis table′ work′ numbers)) (sym e) refl;
       }
 
   pub list-made : {f : FoldFigures} {basis′ work₁ work₂ work₃ : List ℕ} {numbers′ : List ℤ} → folded ≡ Made f
       → NormalRun n (f .points) table′ work′ work₁ → BasisRun n (f .points) table′ work₁ basis work₂ basis′
       → lent work₃ numbers′ ≡ afterQueries n (f .points) table′ queries (lent work₂ numbers)
-      → ListDone n list queries (buffers basis table work numbers) (buffers basis′ table′ work₃ numbers′)
+      → ListDone n list queries (buffersOf basis table work numbers) (buffersOf basis′ table′ work₃ numbers′)
   list-made {f} {basis′} {work₁} {work₂} {work₃} {numbers′} e h b q =
       record {
         folded = folded;
         foldTable = table′;
         foldWork = work′;
         fold = o;
-        after = subst (λ x. AfterFold x n queries (buffers basis table′ work′ numbers) (buffers basis′ table′ work₃ numbers′)) (sym e) asked;
+        after = subst (λ x. AfterFold x n queries (buffersOf basis table′ work′ numbers) (buffersOf basis′ table′ work₃ numbers′)) (sym e) asked;
       }
     where
-      asked : TableAsked n (f .points) queries (buffers basis table′ work′ numbers) (buffers basis′ table′ work₃ numbers′)
+      asked : TableAsked n (f .points) queries (buffersOf basis table′ work′ numbers) (buffersOf basis′ table′ work₃ numbers′)
       asked = record { normalWork = work₁; normal = h; basisWork = work₂; basis = b; table = refl; queried = q }
 
 -- ── Inputs ──

@@ -1,9 +1,9 @@
 -- The lent cells that printing leaves, cited by this program's contracts. What is printed no contract says.
---   BasisRun              <-> the cells are those of an outcome that `basis` promises; NormalRun: that `normal` promises
---   afterQuery, afterQueries == the work cells and the numbers after a query, and after queries one by one
---   TableAsked            <-> the cells after normality, the basis and the queries of a table, in this order
---   ListDone              <-> a list is folded; the table that it makes is asked, and a refused list leaves all other cells
---   InputDone             <-> an input is parsed; its list and queries are done, and bad or refused input leaves all buffers
+--   BasisRun, NormalRun      <-> the cells are those of an outcome that `basis`, or `normal`, promises
+--   afterQuery, afterQueries  == the work cells and the numbers after a query, and after queries one by one
+--   TableAsked               <-> the buffers after normality, the basis and the queries of a table, in this order
+--   ListDone                 <-> a list is folded, and then the table that it makes is asked; after a refused list nothing more is done
+--   InputDone                <-> an input is parsed, and then its list and queries are done; bad or refused input leaves the other buffers
 -- Assumes nothing.
 use mathlib.Core.Path.{_≡_}
 use mathlib.Core.List.{List, [], _∷_}
@@ -32,21 +32,21 @@ abbrev pub NormalRun : ℕ → ℕ → List ℕ → List ℕ → List ℕ → Ty
 NormalRun n N t work work′ = (r : Judged) × NormalOutcome n N t work r work′
 
 -- the cells that a query is lent
-pub record Lent : Type 0 where
+pub record QueryCells : Type 0 where
   pub work : List ℕ
   pub numbers : List ℤ
 
-abbrev pub lent : List ℕ → List ℤ → Lent
+abbrev pub lent : List ℕ → List ℤ → QueryCells
 lent work numbers = record { work = work; numbers = numbers }
 
-unfoldable pub afterQuery : ℕ → ℕ → List ℕ → List ℕ → Lent → Lent
+unfoldable pub afterQuery : ℕ → ℕ → List ℕ → List ℕ → QueryCells → QueryCells
 afterQuery n N t query c =
     record {
       work = workFor query (c .work) (expressRefusal n N t query (length (c .work)) (length (c .numbers)));
       numbers = outFor n N t query (c .numbers) (expressRefusal n N t query (length (c .work)) (length (c .numbers)));
     }
 
-unfoldable pub afterQueries : ℕ → ℕ → List ℕ → List (List ℕ) → Lent → Lent
+unfoldable pub afterQueries : ℕ → ℕ → List ℕ → List (List ℕ) → QueryCells → QueryCells
 afterQueries n N t [] c = c
 afterQueries n N t (query ∷ queries) c = afterQueries n N t queries (afterQuery n N t query c)
 
@@ -59,8 +59,8 @@ pub record Buffers : Type 0 where
   pub work : List ℕ
   pub numbers : List ℤ
 
-abbrev pub buffers : List ℕ → List ℕ → List ℕ → List ℤ → Buffers
-buffers basis table work numbers = record { basis = basis; table = table; work = work; numbers = numbers }
+abbrev pub buffersOf : List ℕ → List ℕ → List ℕ → List ℤ → Buffers
+buffersOf basis table work numbers = record { basis = basis; table = table; work = work; numbers = numbers }
 
 -- the table of N points stands in b, and stays
 pub record TableAsked (n N : ℕ) (queries : List (List ℕ)) (b b′ : Buffers) : Type 0 where
@@ -71,6 +71,7 @@ pub record TableAsked (n N : ℕ) (queries : List (List ℕ)) (b b′ : Buffers)
   pub table : b′ .table ≡ b .table
   pub queried : lent (b′ .work) (b′ .numbers) ≡ afterQueries n N (b .table) queries (lent basisWork (b .numbers))
 
+-- after folding, by what it says
 abbrev pub AfterFold : Folded → ℕ → List (List ℕ) → Buffers → Buffers → Type 0
 AfterFold (FoldRefused r) n queries b b′ = b′ ≡ b
 AfterFold (Made f) n queries b b′ = TableAsked n (f .points) queries b b′
@@ -80,10 +81,11 @@ pub record ListDone (n : ℕ) (list : List ℕ) (queries : List (List ℕ)) (b b
   pub foldTable : List ℕ
   pub foldWork : List ℕ
   pub fold : FoldOutcome n list (b .table) (b .work) folded foldTable foldWork
-  pub after : AfterFold folded n queries (buffers (b .basis) foldTable foldWork (b .numbers)) b′
+  pub after : AfterFold folded n queries (buffersOf (b .basis) foldTable foldWork (b .numbers)) b′
 
 -- ── An input ──
 
+-- after parsing, by what it says: n with the list and the queries of the input, or neither
 abbrev pub AfterParse : Parsed → List ℕ → Buffers → Buffers → Type 0
 AfterParse BadInput input b b′ = b′ ≡ b
 AfterParse (Refused r) input b b′ = b′ ≡ b
