@@ -1,7 +1,10 @@
 // The printing program of document 01: reads n, a list and queries, and prints the figures of the list's subgroup, its
 // basis, and an answer to each query. It has five buffers; the list is put together in the one of the input.
+ghost use mathlib.Core.Path.{_≡_};
 ghost use Prim.Native.Nat.{_≤_};
-ghost use lib.ListN.{length};
+ghost use lib.ListN.{length, take};
+ghost use Rattle.inputs.specs.Parsed.{walkedFrom};
+ghost use Rattle.printer.specs.LentCells.{BasisRun, lent, afterQuery, afterQueries, buffersOf, ListDone, InputDone};
 use bases::BasisAnswer;
 use expressions::Expressed;
 use folds::FoldFigures;
@@ -74,7 +77,9 @@ fn print_words(text: &[u8]) {
 }
 
 // Writes the lines of the basis, or its refusal in place of them.
-fn print_basis(s: Subgroup, table: &[u32], work: &mut [u32], basis: &mut [u8]) {
+fn print_basis(s: Subgroup, table: &[u32], work: &mut [u32], basis: &mut [u8])
+    ensures run { λ _. ⌜ BasisRun (s .n) (s .points) (now (table .entry)) (now (work .entry)) (now (basis .entry)) (now (work .exit)) (now (basis .exit)) ⌝ }
+{
     match bases::basis(s, table, work, basis) {
         BasisAnswer::Refused(r) => prints::refused(r),
         BasisAnswer::Written { words: _, bytes } => {
@@ -108,7 +113,9 @@ fn print_inside(query: &[u8], numbers: &[i32]) {
 }
 
 // Writes the line of a query, or its refusal in place of it.
-fn print_query(s: Subgroup, table: &[u32], query: &[u8], work: &mut [u32], expression: &mut [i32]) {
+fn print_query(s: Subgroup, table: &[u32], query: &[u8], work: &mut [u32], expression: &mut [i32])
+    ensures cells { λ _. ⌜ lent (now (work .exit)) (now (expression .exit)) ≡ afterQuery (s .n) (s .points) (now (table .entry)) (now (query .entry)) (lent (now (work .entry)) (now (expression .entry))) ⌝ }
+{
     match expressions::express(s, table, query, work, expression) {
         Expressed::Refused(r) => prints::refused(r),
         Expressed::Outside => print_outside(query),
@@ -127,7 +134,9 @@ fn print_queries(
     from: usize,
     work: &mut [u32],
     expression: &mut [i32],
-) {
+)
+    ensures cells { λ _. ⌜ lent (now (work .exit)) (now (expression .exit)) ≡ afterQueries (s .n) (s .points) (now (table .entry)) (walkedFrom (length (now (input .entry))) (now (input .entry)) from) (lent (now (work .entry)) (now (expression .entry))) ⌝ }
+{
     let mut at = from;
     while at < input.len() {
         match inputs::query_at(input, at) {
@@ -155,6 +164,7 @@ fn print_list(
     expression: &mut [i32],
 )
     requires { ⌜ list ≤ length (now input) ⌝ }
+    ensures done { λ _. ⌜ ListDone n (take list (now (input .entry))) (walkedFrom (length (now (input .entry))) (now (input .entry)) queries) (buffersOf (now (basis .entry)) (now (table .entry)) (now (work .entry)) (now (expression .entry))) (buffersOf (now (basis .exit)) (now (table .exit)) (now (work .exit)) (now (expression .exit))) ⌝ }
 {
     match folds::fold(n, &input[..list], table, work) {
         Folded::Refused(r) => prints::refused(r),
@@ -177,7 +187,9 @@ fn print_input(
     table: &mut [u32],
     work: &mut [u32],
     expression: &mut [i32],
-) {
+)
+    ensures done { λ _. ⌜ InputDone (now (input .entry)) (buffersOf (now (basis .entry)) (now (table .entry)) (now (work .entry)) (now (expression .entry))) (now (input .exit)) (buffersOf (now (basis .exit)) (now (table .exit)) (now (work .exit)) (now (expression .exit))) ⌝ }
+{
     match inputs::parse(input) {
         Parsed::BadInput => prints::text(b"bad input\n"),
         Parsed::Refused(r) => prints::refused(r),

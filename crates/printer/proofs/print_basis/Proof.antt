@@ -1,4 +1,4 @@
--- `printer::print_basis` meets its contract: what was written stands inside the output (`PrintLaws`).
+-- `printer::print_basis` meets its contract: what was written stands inside the output (`PrintLaws`), and the cells are those that `basis` leaves.
 -- Assumes nothing.
 use native.Mathlib.Omega.{arith}
 use lib.ListN.{length-take}
@@ -35,7 +35,7 @@ same-length-2 : tie.Need-same-length-2
 same-length-2 c = search needs
 
 returns : tie.Need-returns
-returns c = search needs
+returns c = (_, c .before .before .before .before .before .before .before .before .basis .ensures)
 
 same-length-3 : tie.Need-same-length-3
 same-length-3 c = search needs
@@ -44,7 +44,7 @@ same-length-4 : tie.Need-same-length-4
 same-length-4 c = search needs
 
 returns-2 : tie.Need-returns-2
-returns-2 c = search needs
+returns-2 c = (_, c .before .before .before .before .before .before .before .before .before .basis .ensures)
 
 pub print-basis-spec : {M : Type 1} → statement M
 print-basis-spec =

@@ -1,5 +1,6 @@
--- `printer::print_input` meets its contract: the list stands inside the input (`PrintLaws`).
+-- `printer::print_input` meets its contract: the list stands inside the input (`PrintLaws`), and each answer of `parse` leaves its cells (`LentLaws`).
 -- Assumes nothing.
+use Rattle.printer.proofs.LentLaws.{input-bad, input-refused, input-accepted}
 use Rattle.printer.proofs.PrintLaws.{list-inside}
 use borrow.Author.Needs.{needs}
 use Rattle.printer.proofs.print_input.Statement.{statement}
@@ -33,13 +34,13 @@ same-length : tie.Need-same-length
 same-length c = search needs
 
 returns : tie.Need-returns
-returns c = search needs
+returns c = input-bad _ _ (c .before .before .before .before .before .before .parse .ensures) (c .before .before .enum-told .given .1)
 
 same-length-2 : tie.Need-same-length-2
 same-length-2 c = search needs
 
 returns-2 : tie.Need-returns-2
-returns-2 c = search needs
+returns-2 c = input-refused _ _ (c .before .before .before .before .before .before .parse .ensures) (c .before .before .r .given .1)
 
 same-length-3 : tie.Need-same-length-3
 same-length-3 c = search needs
@@ -57,7 +58,7 @@ same-length-7 : tie.Need-same-length-7
 same-length-7 c = search needs
 
 returns-3 : tie.Need-returns-3
-returns-3 c = search needs
+returns-3 c = input-accepted _ _ (c .before .before .before .before .before .before .before .before .before .before .before .before .before .before .before .before .before .before .parse .ensures) (c .before .before .before .before .before .before .before .before .before .before .before .before .before .before .n .given .1) (c .before .before .before .before .before .before .before .print-list .ensures)
 
 pub print-input-spec : {M : Type 1} → statement M
 print-input-spec =

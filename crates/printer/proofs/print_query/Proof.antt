@@ -1,5 +1,6 @@
--- `printer::print_query` meets its contract: an expression stands inside the output (`PrintLaws`).
+-- `printer::print_query` meets its contract: an expression stands inside the output (`PrintLaws`), and the cells are those that `express` leaves (`LentLaws`).
 -- Assumes nothing.
+use Rattle.printer.proofs.LentLaws.{query-done}
 use native.Mathlib.Omega.{arith}
 use lib.ListN.{length-take}
 use Rattle.printer.proofs.PrintLaws.{numbers-inside}
@@ -41,7 +42,7 @@ same-length-2 : tie.Need-same-length-2
 same-length-2 c = search needs
 
 returns : tie.Need-returns
-returns c = search needs
+returns c = query-done _ _ _ _ _ _ (c .before .before .before .before .before .before .before .express .ensures)
 
 same-length-3 : tie.Need-same-length-3
 same-length-3 c = search needs
@@ -50,7 +51,7 @@ same-length-4 : tie.Need-same-length-4
 same-length-4 c = search needs
 
 returns-2 : tie.Need-returns-2
-returns-2 c = search needs
+returns-2 c = query-done _ _ _ _ _ _ (c .before .before .before .before .before .before .express .ensures)
 
 same-length-5 : tie.Need-same-length-5
 same-length-5 c = search needs
@@ -59,7 +60,7 @@ same-length-6 : tie.Need-same-length-6
 same-length-6 c = search needs
 
 returns-3 : tie.Need-returns-3
-returns-3 c = search needs
+returns-3 c = query-done _ _ _ _ _ _ (c .before .before .before .before .before .before .before .before .express .ensures)
 
 pub print-query-spec : {M : Type 1} → statement M
 print-query-spec =
