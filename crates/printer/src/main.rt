@@ -206,12 +206,6 @@ fn print_input(
     }
 }
 
-// Whether the input goes on.
-fn goes_on() -> bool {
-    let mut more = [0u8; 1];
-    0 < io::read_full(0, &mut more)
-}
-
 fn main() {
     let mut input = [0u8; 65536];
     let mut basis = [0u8; 65536];
@@ -220,7 +214,9 @@ fn main() {
     let mut expression = [0i32; 16384];
     let got = io::read_full(0, &mut input);
     if 65536 <= got {
-        if goes_on() {
+        // One byte more tells whether the input goes on.
+        let mut more = [0u8; 1];
+        if 0 < io::read_full(0, &mut more) {
             prints::text(b"bad input\n");
             return;
         }
