@@ -1,6 +1,8 @@
 //! Calls on lent tables of many points and on long lists, by the library and by plain Rust, in one run on warm
 //! buffers. Both must give the same replies and leave the same cells, bytes and numbers.
 
+use std::collections::HashMap;
+
 use crate::plain;
 use crate::replies::{CheckReply, ExpressReply, LoadReply, WrittenReply, YesReply};
 use crate::shapes::{action, inverse, long_word, matrices, random_words, ABSENT};
@@ -165,9 +167,13 @@ fn outcome(call: &Call, engine: &Engine, lent: &mut Lent) -> ([u64; 4], [Vec<u32
     (reply, [lent.work.clone(), lent.cells.clone()], lent.out.clone(), lent.numbers.clone())
 }
 
-fn rows(shape: &str, n: usize, table: Vec<u32>) {
+/// The time an item of the smallest table, by call, shape and n.
+type Firsts = HashMap<(&'static str, &'static str, usize), f64>;
+
+fn rows(shape: &'static str, n: usize, table: Vec<u32>, firsts: &mut Firsts) {
     let mut lent = Lent::new(n, table);
     let library = LIBRARY.unwrap_or(PLAIN);
+    let [fill] = least([&mut || std::hint::black_box(&mut lent.cells).fill(ABSENT)]);
     for call in &CALLS {
         let (ours, other) = (outcome(call, &library, &mut lent), outcome(call, &PLAIN, &mut lent));
         assert!(ours.0[0] == 0 && ours == other, "{} of {shape}: {:?}, {:?}", call.name, ours.0, other.0);
@@ -179,9 +185,11 @@ fn rows(shape: &str, n: usize, table: Vec<u32>) {
         ]);
         let lent = lent.borrow();
         let each = |time: std::time::Duration| time.as_nanos() as f64 / (call.items)(&lent) as f64;
+        let over = ours.as_nanos() as f64 / fill.as_nanos() as f64;
+        let growth = each(ours) / *firsts.entry((call.name, shape, n)).or_insert(each(ours));
         let ours = LIBRARY.map(|_| each(ours));
         println!(
-            "| {} | {shape} | {n} | {} | {} {} | {} | {:.2} | {} |",
+            "| {} | {shape} | {n} | {} | {} {} | {} | {:.2} | {} | {over:.1} | {growth:.2} |",
             call.name, lent.points, reply[2], reply[3], shown(ours, 2), each(plain), shown(ours.map(|x| x / each(plain)), 2),
         );
     }
@@ -194,13 +202,14 @@ pub fn print(most: usize) {
          A query has as many letters as there are points. A reply is rank and index, yes and the numbers of an\n\
          expression, or words (of a table loaded, points) and bytes.\n"
     );
-    println!("| call | shape | n | points | reply | library | plain | library / plain |");
-    println!("|---|---|--:|--:|--:|--:|--:|--:|");
+    println!("| call | shape | n | points | reply | library | plain | library / plain | over a fill | growth |");
+    println!("|---|---|--:|--:|--:|--:|--:|--:|--:|--:|");
+    let mut firsts = Firsts::new();
     for n in ALPHABETS {
         for points in POINTS.into_iter().filter(|&points| points * 2 * n <= MOST_CELLS && points <= most) {
-            rows("finite index", n, action(n, points));
-            rows("words of 100", n, folded(n, points));
-            rows("normal", n, matrices(n, points));
+            rows("finite index", n, action(n, points), &mut firsts);
+            rows("words of 100", n, folded(n, points), &mut firsts);
+            rows("normal", n, matrices(n, points), &mut firsts);
         }
     }
 }
