@@ -28,11 +28,11 @@ use Rattle.theory.proofs.HomeLaws.{Homeward}
 use Rattle.theory.proofs.OneTable.{point_reached, canonical_home, AcceptsExactly}
 use Rattle.theory.proofs.PathLaws.{Setting, inverses}
 use Rattle.theory.proofs.DistinctLaws.{get_or_mem}
-use Rattle.theory.proofs.MemLaws.{◌∈◌, mem_dec}
+use Rattle.theory.proofs.MemLaws.{mem_dec}
 use Rattle.theory.proofs.GraphLaws.{other_end, edge_other, along_back}
 use Rattle.theory.proofs.LabelLaws.{alike_in, alike_swap}
 use Rattle.theory.proofs.StartLaws.{Good}
-use Rattle.theory.proofs.SameLaws.{ReadsHome, Core, Same, reads_in, same_of_home}
+use Rattle.theory.proofs.SameLaws.{ReadsHome, Core, reads_in, same_of_home}
 
 -- ── Subgroups ──
 

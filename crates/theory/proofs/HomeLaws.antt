@@ -4,12 +4,11 @@
 --   onward          : a reduced word that reads from b begins a reduced loop at b
 --   same_words      : of two graphs, where loops of the first are loops of the second, words of the first are words of the second
 -- Assumes nothing.
-use mathlib.Core.Path.{◌≡◌, refl, sym, subst}
-use mathlib.Core.Bool.{false}
+use mathlib.Core.Path.{◌≡◌}
 use mathlib.Core.List.{List, [], ◌∷◌, ◌++◌}
 use Prim.Native.Nat.{ℕ}
 use borrow.Author.Tests.{ne_eqb}
-use Rattle.theory.specs.Words.{inv, undoes, Reduced}
+use Rattle.theory.specs.Words.{inv, Reduced}
 use Rattle.theory.specs.Tables.{Reads}
 use Rattle.theory.proofs.ReadLaws.{Steps, reads_append, reads_split}
 

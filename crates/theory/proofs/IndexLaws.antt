@@ -9,7 +9,7 @@
 use mathlib.Core.Path.{◌≡◌, refl, sym, ◌∙◌, ap, subst}
 use mathlib.Core.Logic.{◌⊎◌, inl, inr, ⊎_elim, by_cases}
 use mathlib.Core.Bool.{Bool, true, false, not, ◌&&◌, and_assoc, true≢false}
-use mathlib.Core.List.{List, [], ◌∷◌, ◌++◌, map, append_assoc, append-nil}
+use mathlib.Core.List.{List, [], ◌∷◌, ◌++◌, map, append_assoc}
 use Prim.Native.Nat.{ℕ, zero, suc, ◌+◌, ◌-◌, ◌<◌}
 use native.Mathlib.Decide.{ℕ_discrete, dec_lt}
 use native.Mathlib.Omega.{arith}
@@ -17,37 +17,14 @@ use lib.Dec.{eqb}
 use lib.ListN.{length, get_or, replicate, replicate-append-replicate}
 use borrow.Author.Tests.{eq-eqb, ne_eqb, eqb-true, not-true, not-false}
 use Rattle.theory.specs.Words.{inv, reduced, Reduced, inverse_of}
-use Rattle.theory.specs.Tables.{absent, Cells, Leads, Reads, Accepts}
+use Rattle.theory.specs.Tables.{absent, Cells, Leads, Reads}
 use Rattle.theory.specs.Canonical.{Canonical}
 pub use Rattle.theory.specs.Subgroups.{SameCoset, Cosets, Endless}
 pub use Rattle.theory.specs.Letters.{AllIn}
 use Rattle.theory.specs.Basis.{Spot, spots_of, scan, finite, infinite, all, index_of, is_full}
-use Rattle.theory.proofs.WordLaws.{
-  by_test,
-  letters,
-  reduced_nil,
-  reduced_idem,
-  reduced_fixed,
-  append_cong,
-  gone_between,
-  inverse_cong,
-  inverse_append,
-  inverse_inverse,
-  inverse_left,
-  inverse_right,
-}
+use Rattle.theory.proofs.WordLaws.{by_test, letters, reduced_idem, reduced_fixed, gone_between, inverse_cong, inverse_append, inverse_inverse, inverse_right}
 use Rattle.theory.proofs.RefusalLaws.{and_true}
-use Rattle.theory.proofs.ReadLaws.{
-  reads_append,
-  reads_split,
-  reads_one,
-  reads_back,
-  reads_reduced,
-  ends_loop,
-  loop_ends,
-  canonical_inverse,
-  loop_reads,
-}
+use Rattle.theory.proofs.ReadLaws.{reads_split, reads_one, reads_back, reads_reduced, ends_loop, loop_ends, canonical_inverse, loop_reads}
 use Rattle.theory.proofs.TableLaws.{StandsIn, Bounded}
 use Rattle.theory.proofs.OneTable.{leads_here, point_reached, next_letter}
 

@@ -3,11 +3,11 @@
 -- A statement about the table of a list holds for every table that is `TableOf` it, over lists of words of any length.
 -- Not shown here: that each accepted list has such a table (folding's contract), that `normal` is the ordinary notion (it is not: document
 -- 01's rule asks only points one letter away), anything about code. Assumes nothing.
-use mathlib.Core.Path.{◌≡◌, refl, sym, ◌∙◌, subst}
+use mathlib.Core.Path.{◌≡◌, sym, subst}
 use mathlib.Core.Logic.{◌↔◌}
 use mathlib.Core.Bool.{Bool, true}
 use mathlib.Core.Option.{some, none}
-use mathlib.Core.List.{List, [], ◌∷◌, ◌++◌, Memᴰ}
+use mathlib.Core.List.{List, [], ◌++◌, Memᴰ}
 use Prim.Native.Nat.{ℕ, suc, ◌+◌, ◌-◌, ◌*◌, ◌≤◌, ◌<◌}
 use lib.IntN.{ℤ}
 use lib.ListN.{length, get_or}
@@ -23,13 +23,13 @@ use Rattle.theory.specs.Words.{
   SameSubgroup,
 }
 use Rattle.theory.specs.Letters.{usual, letters_in, words_of}
-use Rattle.theory.specs.Refusals.{Refusal, First, TextCause, text_refusal}
-use Rattle.theory.specs.Tables.{absent, cell, Leads, Reads, Accepts, is_accepted}
-use Rattle.theory.specs.Canonical.{Canonical, Broken, faulty_cell}
+use Rattle.theory.specs.Refusals.{First, TextCause, text_refusal}
+use Rattle.theory.specs.Tables.{absent, cell, Leads, Reads, is_accepted}
+use Rattle.theory.specs.Canonical.{Canonical, faulty_cell}
 use Rattle.theory.specs.Graphs.{Graph, Along, start_graph, reduced_length, non_empty_words}
 use Rattle.theory.specs.Folds.{Kind, FoldStep, Folding, CompleteFolding}
 use Rattle.theory.specs.Basis.{finite, infinite, outside_edges, basis_word, basis_of, expression_of, rank_of, index_of}
-use Rattle.theory.specs.Subgroups.{TableOf, Prefix, EndsAlike, SameGraph, SameNames, SameCoset, Cosets, Endless}
+use Rattle.theory.specs.Subgroups.{TableOf, Prefix, EndsAlike, SameGraph, SameNames, Cosets, Endless}
 use Rattle.theory.proofs.WordLaws.{letters, reduced_none, reduced_idem, reduced_append, inverse_right}
 use Rattle.theory.proofs.RefusalLaws.{refusal_first, first_refusal, refusal_none, none_refusal}
 use Rattle.theory.proofs.ReadLaws.{is_accepted_sound, is_accepted_complete}

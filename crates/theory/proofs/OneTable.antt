@@ -20,7 +20,7 @@ use lib.Arith.{digits_lt}
 use lib.ListN.{length, get_or, take}
 use lib.Seq.{length-take-le, get_or-take, ext_get_or}
 use borrow.Author.Tests.{eqb-false, ltb-true}
-use Rattle.theory.specs.Words.{inv, reduced, Reduced, inverse_of, Member, SameSubgroup}
+use Rattle.theory.specs.Words.{inv, reduced, Reduced, inverse_of, SameSubgroup}
 use Rattle.theory.specs.Letters.{usual}
 use Rattle.theory.specs.Tables.{absent, Cells, cell, Leads, Reads, Accepts}
 use Rattle.theory.specs.Canonical.{Canonical, row_of, rows_before, earlier, greatest_met}

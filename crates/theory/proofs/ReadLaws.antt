@@ -7,7 +7,7 @@
 --   loops_accepted: where each listed word's reduction is a loop at 0, so is each member's
 -- Graphs are relations of point, letter, point: tables, start graphs and folded edge lists alike. Assumes nothing.
 use mathlib.Core.Path.{◌≡◌, refl, sym, ◌∙◌, ap, subst}
-use mathlib.Core.Bool.{Bool, true, false, cond, true≢false}
+use mathlib.Core.Bool.{true, cond, true≢false}
 use mathlib.Core.Option.{Option, none, some, some-injective}
 use mathlib.Core.List.{List, [], ◌∷◌, ◌++◌, append_assoc, append-nil}
 use Prim.Native.Nat.{ℕ, zero, suc, ◌<◌}
@@ -15,7 +15,7 @@ use native.Mathlib.Omega.{arith}
 use lib.Dec.{eqb}
 use lib.IntN.{ℤ, pos, negsuc}
 use lib.ListN.{length, get_or}
-use borrow.Author.Tests.{eq-eqb, ne_eqb, eqb-true, eqb-false}
+use borrow.Author.Tests.{ne_eqb, eqb-true, eqb-false}
 use Rattle.theory.specs.Words.{
   inv,
   put,
@@ -34,23 +34,7 @@ use Rattle.theory.specs.Words.{
 use Rattle.theory.specs.Tables.{absent, Cells, Leads, Reads, end_of, Accepts, is_at, is_accepted}
 pub use Rattle.theory.specs.Tables.{Steps}
 use Rattle.theory.specs.Canonical.{Canonical}
-use Rattle.theory.proofs.WordLaws.{
-  by_test,
-  letters,
-  reduced_nil,
-  reduced_idem,
-  reduced_append,
-  append_cong,
-  inverse_cong,
-  inverse_append,
-  met_between,
-  inverse_left,
-  inverse_right,
-  member_empty,
-  member_append,
-  member_inverse,
-  member_cong,
-}
+use Rattle.theory.proofs.WordLaws.{by_test, letters, reduced_nil, reduced_idem, reduced_append, append_cong, inverse_cong, met_between, inverse_left, inverse_right, member_empty, member_append, member_inverse, member_cong}
 
 pub record Inverse (E : Steps) : Type 0 where
   pub one : (v y x z : ℕ) → E v y x → E v y z → x ≡ z

@@ -15,29 +15,9 @@ use native.Mathlib.Decide.{ℕ_discrete, dec_lt}
 use native.Mathlib.Omega.{arith}
 use lib.Dec.{eqb, ltb, leb}
 use lib.ListN.{length, get_or}
-use borrow.Author.Tests.{eq-eqb, ne_eqb, eqb-true, eqb-false, ltb-true, ltb-false, lt-ltb, le-ltb, leb-true, leb-false, le-leb, lt-leb, not-true}
+use borrow.Author.Tests.{eq-eqb, ne_eqb, eqb-true, eqb-false, ltb-true, ltb-false, lt-ltb, le-ltb, leb-true, le-leb, lt-leb, not-true}
 use Rattle.theory.specs.Letters.{letter_of, is_letter, line_end}
-use Rattle.theory.specs.Refusals.{
-  Refusal,
-  Before,
-  turn,
-  First,
-  Cause1,
-  Cause2,
-  Cause3,
-  Cause4,
-  Cause5,
-  InList,
-  TextCause,
-  text_limit,
-  is_alphabet,
-  byte_refusal,
-  bytes_refusal,
-  is_unended,
-  or_else,
-  refused_if,
-  text_refusal,
-}
+use Rattle.theory.specs.Refusals.{Refusal, turn, First, Cause1, Cause2, Cause5, InList, TextCause, text_limit, is_alphabet, byte_refusal, bytes_refusal, is_unended, or_else, refused_if, text_refusal}
 use Rattle.theory.proofs.WordLaws.{by_test}
 
 -- both tests of an `&&` hold

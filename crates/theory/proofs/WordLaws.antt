@@ -2,33 +2,14 @@
 --   Inverses inv cancels <-> inv undoes itself, and x cancels y exactly if x is y's inverse
 -- Nothing here asks a bound of a letter. Assumes nothing.
 use mathlib.Core.Path.{◌≡◌, refl, sym, ◌∙◌, ap, subst}
-use mathlib.Core.Logic.{⊎_elim}
-use mathlib.Core.Bool.{Bool, true, false, cond, true≢false, Bool-discrete}
+use mathlib.Core.Bool.{Bool, true, false, true≢false}
 use mathlib.Core.List.{List, [], ◌∷◌, ◌++◌, reverse, reverse-cons, append_assoc, append-nil}
-use Prim.Native.Nat.{ℕ, zero, suc, ◌+◌, ◌-◌, ◌*◌, ◌%◌, ◌<◌, ◌≤◌}
+use Prim.Native.Nat.{ℕ, zero, suc, ◌<◌}
 use native.Mathlib.Omega.{arith}
 use lib.IntN.{ℤ, pos, negsuc, neg_ℤ, neg_ℤ-neg_ℤ}
 use lib.ListN.{length, get_or}
 use borrow.Author.Tests.{eq-eqb, eqb-true}
-use Rattle.theory.specs.Words.{
-  inv,
-  put,
-  reduced_by,
-  NoneCancels,
-  undoes,
-  reduced,
-  Reduced,
-  ◌≈◌,
-  inverse_by,
-  inverse_of,
-  named,
-  product,
-  Names,
-  AllNames,
-  Member,
-  sameℤ,
-  opposite,
-}
+use Rattle.theory.specs.Words.{inv, put, reduced_by, NoneCancels, undoes, reduced, ◌≈◌, inverse_by, inverse_of, named, product, Names, AllNames, Member, sameℤ, opposite}
 
 pub record Inverses {A : Type 0} (inv : A → A) (cancels : A → A → Bool) : Type 0 where
   pub twice : (y : A) → inv (inv y) ≡ y

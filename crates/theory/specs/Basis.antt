@@ -8,10 +8,9 @@
 --   rank_of, index_of        == edges + 1 − N; N if no cell is absent, else infinite
 --   is_normal c N ys        == every basis word, read from each point one letter away from the base, leads back to that point
 -- The letters to scan are an argument: `usual n` for document 01. Assumes nothing.
-use Rattle.std.specs.Prelude.{◌≡◌, Bool, true, false, cond, not, ◌&&◌, ◌||◌, List, [], ◌∷◌, ◌++◌, map, ℕ, zero, suc, ◌+◌, ◌-◌, eqb, ℤ, pos, negsuc, length, get_or}
+use Rattle.std.specs.Prelude.{Bool, true, false, cond, not, ◌&&◌, ◌||◌, List, [], ◌∷◌, ◌++◌, map, ℕ, zero, suc, ◌+◌, ◌-◌, eqb, ℤ, pos, negsuc, length, get_or}
 use Rattle.std.proofs.Math.Option.{Option, none, some}
 use Rattle.theory.specs.Words.{inv, reduced, inverse_of}
-use Rattle.theory.specs.Letters.{up_to}
 use Rattle.theory.specs.Tables.{absent, Cells, end_of, is_at}
 use Rattle.theory.specs.Canonical.{Place, first_place}
 use Rattle.theory.specs.Graphs.{is_lower}

@@ -6,7 +6,7 @@
 --   Cause10 .. Cause12 <-> that cause applies at byte p
 -- A number that starts is read if it is the shortest form of one that is not too big; anything else is cut, too long or too big,
 -- which are one cause. Assumes nothing.
-use Rattle.std.specs.Prelude.{◌≡◌, ◌⊎◌, cond, List, [], ◌∷◌, ◌++◌, map, ℕ, zero, suc, ◌+◌, ◌*◌, ◌/◌, ◌%◌, ◌≤◌, ◌<◌, eqb, ltb, length, take, drop}
+use Rattle.std.specs.Prelude.{◌≡◌, cond, List, [], ◌∷◌, ◌++◌, map, ℕ, zero, suc, ◌+◌, ◌*◌, ◌/◌, ◌%◌, ◌≤◌, ◌<◌, eqb, ltb, length, take, drop}
 use Rattle.theory.specs.Tables.{absent}
 
 -- the greatest number that a file may hold

@@ -10,7 +10,7 @@
 --   letters_in text   == L, the number of letters of a list as written
 -- A text that is not a list has words too: what follows its last line end is its last word, and a byte that is no letter
 -- stands as letter 52. Refused texts are never read as words. Assumes nothing.
-use Rattle.std.specs.Prelude.{◌≡◌, Bool, cond, List, [], ◌∷◌, ◌++◌, map, ℕ, zero, suc, ◌*◌, ◌<◌, eqb, ltb, length, get_or, take, drop}
+use Rattle.std.specs.Prelude.{◌≡◌, Bool, cond, List, [], ◌∷◌, ◌++◌, map, ℕ, zero, suc, ◌*◌, ◌<◌, eqb, ltb, length, get_or, take}
 
 unfoldable pub letter_bytes : List ℕ
 letter_bytes =

@@ -8,7 +8,7 @@
 --   text_refusal      == the first of them, computed (`proofs/RefusalLaws` proves it to be `First`)
 -- `lines` says whether line ends are allowed: true for a list, false for a query. Files have an order of their own (`Files`).
 -- Assumes nothing.
-use Rattle.std.specs.Prelude.{◌≡◌, ◌⊎◌, Bool, true, false, cond, not, ◌&&◌, ◌||◌, List, [], ◌∷◌, ℕ, zero, suc, ◌+◌, ◌-◌, ◌*◌, ◌≤◌, ◌<◌, eqb, ltb, leb, length, get_or}
+use Rattle.std.specs.Prelude.{◌≡◌, ◌⊎◌, Bool, true, false, cond, not, ◌&&◌, List, [], ◌∷◌, ℕ, zero, suc, ◌-◌, ◌*◌, ◌≤◌, ◌<◌, eqb, ltb, leb, length, get_or}
 use Rattle.std.proofs.Math.Option.{Option, none, some}
 use Rattle.theory.specs.Letters.{letter_of, is_letter, line_end}
 

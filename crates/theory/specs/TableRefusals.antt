@@ -4,7 +4,7 @@
 --   check_refusal, member_refusal, equal_refusal == the first of them, computed (`proofs/TableRefusalLaws` proves it to be `First`)
 -- N is V, t the lent cells, all of them: those behind N × 2n count for nothing. A query is a text without line ends; `room` is the number of work
 -- cells. Of two tables that meet one place in the order the first one's refusal is given. Assumes nothing.
-use Rattle.std.specs.Prelude.{◌≡◌, ◌⊎◌, Bool, true, false, not, ◌&&◌, List, ℕ, ◌+◌, ◌*◌, eqb, ltb, leb, length}
+use Rattle.std.specs.Prelude.{◌≡◌, ◌⊎◌, Bool, false, not, ◌&&◌, List, ℕ, ◌+◌, ◌*◌, eqb, ltb, leb, length}
 use Rattle.std.proofs.Math.Option.{Option, none, some}
 use Rattle.theory.specs.Letters.{usual}
 use Rattle.theory.specs.Refusals.{

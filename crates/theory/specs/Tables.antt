@@ -8,7 +8,7 @@
 --   Accepts c q       <-> the reduced query leads from the base back to the base
 -- N is document 01's V (a reserved word here). A `cell` outside the N rows and the 2n letters is absent, so that no law needs a
 -- bound and what stands behind the N rows of a lent table counts for nothing. Assumes nothing.
-use Rattle.std.specs.Prelude.{◌≡◌, Bool, true, false, cond, ◌&&◌, List, [], ◌∷◌, ℕ, suc, ◌+◌, ◌*◌, eqb, ltb, get_or}
+use Rattle.std.specs.Prelude.{◌≡◌, Bool, false, cond, ◌&&◌, List, [], ◌∷◌, ℕ, suc, ◌+◌, ◌*◌, eqb, ltb, get_or}
 use Rattle.std.proofs.Math.Option.{Option, none, some}
 use Rattle.theory.specs.Words.{reduced}
 

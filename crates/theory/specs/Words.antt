@@ -8,7 +8,7 @@
 --   Tidy ks       <-> no number of ks stands beside its own inverse
 -- `reduced_by` and `inverse_by` say it once for two alphabets: letters, and signed numbers of words.
 -- Cited by contracts and by every law. Assumes nothing.
-use Rattle.std.specs.Prelude.{◌≡◌, Bool, true, false, cond, List, [], ◌∷◌, ◌++◌, ℕ, zero, suc, ◌+◌, ◌-◌, ◌*◌, ◌%◌, ◌<◌, eqb, ℤ, pos, negsuc, neg_ℤ, length, get_or}
+use Rattle.std.specs.Prelude.{◌≡◌, Bool, false, cond, List, [], ◌∷◌, ◌++◌, ℕ, zero, suc, ◌+◌, ◌-◌, ◌*◌, ◌%◌, ◌<◌, eqb, ℤ, pos, negsuc, neg_ℤ, length, get_or}
 
 -- the letter that undoes y: its neighbour in the letter order a, A, b, B, ..
 unfoldable pub inv : ℕ → ℕ
