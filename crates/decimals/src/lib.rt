@@ -1,4 +1,6 @@
 // Numbers in decimal, for output: the digits of a number as bytes, the most significant first.
+#![tactic(auto)]
+
 ghost use Rattle.std.specs.Prelude.{◌≡◌, ◌++◌, ◌≤◌, length, drop};
 ghost use Rattle.decimals.specs.Decimal.{decimal_of, Decimal};
 
