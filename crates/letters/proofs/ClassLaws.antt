@@ -4,15 +4,15 @@
 -- Assumes nothing.
 use mathlib.Core.Path.{◌≡◌, refl, sym, ◌∙◌, ap, subst}
 use mathlib.Core.Logic.{◌⊎◌, inl, inr, ⊎_elim, by_cases}
-use mathlib.Core.Bool.{Bool, true, false, cond, not, ◌&&◌}
-use Prim.Native.Nat.{ℕ, suc, ◌+◌, ◌-◌, ◌*◌, ◌≤◌, ◌<◌}
-use native.Mathlib.Decide.{dec_le, ℕ_discrete}
+use mathlib.Core.Bool.{Bool, true, false, cond, ◌&&◌}
+use Prim.Native.Nat.{ℕ, ◌+◌, ◌-◌, ◌*◌, ◌≤◌, ◌<◌}
+use native.Mathlib.Decide.{dec_le}
 use native.Mathlib.Omega.{arith}
 use lib.Dec.{eqb, ltb, leb}
 use borrow.Author.Tests.{le-leb, lt-leb, eqb-true, ne_eqb, lt-ltb, le-ltb}
-use Rattle.theory.specs.Letters.{letter_of, is_letter, line_end}
+use Rattle.theory.specs.Letters.{letter_of, is_letter}
 use Rattle.theory.specs.Refusals.{byte_refusal}
-use Rattle.theory.proofs.LetterLaws.{letter_range, by_range}
+use Rattle.theory.proofs.LetterLaws.{letter_range}
 use Rattle.theory.proofs.WordLaws.{by_test}
 use Rattle.letters.specs.Class.{class_of}
 use Rattle.letters.specs.declared.Class.{Class}

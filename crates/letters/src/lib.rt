@@ -1,4 +1,6 @@
 // Letters and their bytes: the letter order, the class of a byte, the inverse letter.
+#![tactic(auto)]
+
 ghost use Rattle.std.specs.Prelude.{◌≡◌, ◌<◌};
 ghost use Rattle.theory.specs.Words.{inv};
 ghost use Rattle.theory.specs.Letters.{byte_of, letter_of};
@@ -12,7 +14,7 @@ const LETTERS: [u8; 52] = [
 ];
 
 // What a byte of a text is. A letter carries the number of its generator, from 1.
-#[derive(Drop)]
+#[derive(Clone, Copy)]
 pub enum Class {
     Lower(u8),
     Upper(u8),
