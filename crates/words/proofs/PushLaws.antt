@@ -4,20 +4,17 @@
 -- Assumes nothing.
 use mathlib.Core.Path.{◌≡◌, refl, sym, ◌∙◌, ap, subst}
 use mathlib.Core.Logic.{by_cases}
-use mathlib.Core.Bool.{Bool, true, false, cond, ◌&&◌}
-use mathlib.Core.List.{List, [], ◌∷◌, ◌++◌, append_assoc, append-nil, map}
+use mathlib.Core.Bool.{true, false}
+use mathlib.Core.List.{List, [], ◌∷◌, ◌++◌, append_assoc}
 use Prim.Native.Nat.{ℕ, zero, suc, ◌+◌, ◌-◌, ◌≤◌, ◌<◌}
-use native.Mathlib.Decide.{ℕ_discrete, dec_lt}
-use native.Mathlib.Nat.{add-zero, zero-add}
+use native.Mathlib.Decide.{dec_lt}
 use native.Mathlib.Numerals.{add-one}
 use native.Mathlib.Omega.{arith}
-use lib.Dec.{eqb, ltb}
-use lib.ListN.{length, get_or, take, drop, set, replicate, length-append, length-replicate}
-use lib.Seq.{drop-cons, set_at, get_or_at, get_or-set_other, take-suc}
-use borrow.Author.Tests.{eq-eqb, ne_eqb, lt-ltb, le-ltb, eqb-true, ltb-true}
-use Rattle.theory.specs.Words.{inv, put, undoes, reduced_by, reduced, Reduced}
-use Rattle.theory.proofs.WordLaws.{by_test, letters, reduced_none, reduced_idem, reduced_nil, append_cong, snoc_gone, snoc_kept}
-use Rattle.theory.proofs.RefusalLaws.{and_true}
+use lib.ListN.{length, get_or, drop, set, replicate, length-append, length-replicate}
+use lib.Seq.{drop-cons, set_at, get_or-set_other}
+use borrow.Author.Tests.{eq-eqb, ne_eqb, lt-ltb, le-ltb}
+use Rattle.theory.specs.Words.{inv, put, reduced_by, reduced, Reduced}
+use Rattle.theory.proofs.WordLaws.{letters, reduced_none, reduced_idem, append_cong, snoc_gone, snoc_kept}
 use Rattle.theory.proofs.StartLaws.{reduced_shorter}
 use Rattle.words.specs.Reduction.{reduced_cells, is_gone, Pushed}
 

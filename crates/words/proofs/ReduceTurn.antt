@@ -1,10 +1,9 @@
 -- The turns of `reduce` on plain values: the cells hold the reduction of the letters read so far.
 -- Assumes nothing.
 use mathlib.Core.Path.{◌≡◌, refl, sym, ◌∙◌, ap, subst}
-use mathlib.Core.Logic.{by_cases}
-use mathlib.Core.Bool.{Bool, true, false, cond, ◌&&◌, true≢false}
+use mathlib.Core.Bool.{true, false, true≢false}
 use mathlib.Core.List.{List, [], ◌∷◌, ◌++◌, append_assoc}
-use Prim.Native.Nat.{ℕ, zero, suc, ◌+◌, ◌-◌, ◌≤◌, ◌<◌}
+use Prim.Native.Nat.{ℕ, suc, ◌+◌, ◌-◌, ◌≤◌, ◌<◌}
 use native.Mathlib.Numerals.{add-one}
 use native.Mathlib.Omega.{arith}
 use lib.Dec.{eqb, ltb}
@@ -18,7 +17,6 @@ use Rattle.theory.proofs.RefusalLaws.{and_true}
 use Rattle.theory.proofs.StartLaws.{reduced_shorter}
 use Rattle.theory.proofs.TextLaws.{length-first_word, first_word_at}
 use Rattle.words.specs.Reduction.{reduced_cells, is_gone, Pushed, ReducedInto}
-use Rattle.words.specs.declared.Reduced.{Reduced}
 use Rattle.words.proofs.PushLaws.{Ended, ended, more_gone, more_stays}
 
 -- `top` letters are left of w, and the cells hold them

@@ -1,10 +1,12 @@
 // One word, handed over as the part of the list where it starts: its length and its reduction.
+#![tactic(auto)]
+
 ghost use Rattle.std.specs.Prelude.{◌≡◌, ◌<◌, ◌≤◌, length};
 ghost use Rattle.theory.specs.Letters.{word_length};
 ghost use Rattle.words.specs.Reduction.{Pushed, ReducedInto};
 
 // What reducing a word says: the letters that were read, and the letters that are left.
-#[derive(Drop)]
+#[derive(Clone, Copy)]
 pub struct Reduced {
     pub read: usize,
     pub left: usize,
