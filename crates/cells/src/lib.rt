@@ -1,4 +1,6 @@
 // Lent cells: filling a run of them with one value.
+#![tactic(auto)]
+
 ghost use Rattle.std.specs.Prelude.{◌≡◌, ◌≤◌, length};
 ghost use Rattle.cells.specs.Filled.{filled};
 
