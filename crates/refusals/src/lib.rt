@@ -1,15 +1,17 @@
 // A refusal: its number in document 01's table, and its place. Every answer carries refusals as this one struct.
+#![tactic(auto)]
+
 ghost use Rattle.std.specs.Prelude.{◌≡◌};
 ghost use Rattle.refusals.specs.Given.{given_as};
 
-#[derive(Drop)]
+#[derive(Clone, Copy)]
 pub struct Refusal {
     pub number: u64,
     pub place: u64,
 }
 
 // Whether a cause applies.
-#[derive(Drop)]
+#[derive(Clone, Copy)]
 pub enum Found {
     Cause(Refusal),
     Nothing,
