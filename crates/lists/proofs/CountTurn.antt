@@ -4,15 +4,14 @@ use mathlib.Core.Path.{◌≡◌, refl, sym, ◌∙◌, ap, subst}
 use mathlib.Core.Bool.{Bool, true, false, cond}
 use mathlib.Core.Option.{Option, none, some}
 use mathlib.Core.List.{List, []}
-use Prim.Native.Nat.{ℕ, suc, ◌+◌, ◌-◌, ◌≤◌, ◌<◌, min}
+use Prim.Native.Nat.{ℕ, ◌+◌, ◌-◌, ◌≤◌, ◌<◌}
 use native.Mathlib.Numerals.{add-one}
 use native.Mathlib.Omega.{arith}
-use lib.Dec.{leb}
 use lib.ListN.{length, get_or, take, drop, length-drop}
 use lib.Seq.{take_all}
 use borrow.Author.Tests.{le-leb, lt-leb}
 use denote.Ref.{Bor}
-use Rattle.theory.specs.Letters.{line_end, letters_in, word_length, words_of}
+use Rattle.theory.specs.Letters.{line_end, letters_in, word_length}
 use Rattle.theory.specs.Refusals.{Refusal, is_unended, text_refusal}
 use Rattle.theory.proofs.TextLaws.{letters_pass, letters_stop, letters_end, letters_le, words_count, word_length_le}
 use Rattle.lists.specs.Scans.{scanned_as}

@@ -2,7 +2,7 @@
 --   shorter_determined : two slices that `shorter` may hand back point to the same place and have the same bytes
 -- `scan`, `letters_in`, `count` and `next_start` are equations. A reference's ghost name is nothing that a program can see.
 -- Assumes nothing.
-use mathlib.Core.Path.{◌≡◌, refl, sym, ◌∙◌, ap}
+use mathlib.Core.Path.{◌≡◌, sym, ◌∙◌, ap}
 use mathlib.Core.List.{List}
 use Prim.Native.Nat.{ℕ}
 use denote.Ref.{Bor}

@@ -15,7 +15,7 @@ use Rattle.theory.specs.Letters.{letter_bytes, place_in, letter_of, is_letter, l
 use Rattle.theory.specs.Refusals.{is_alphabet, byte_refusal, bytes_refusal, is_unended, text_refusal}
 use Rattle.refusals.specs.declared.Refusal.{Refusal}
 use Rattle.lists.specs.Scans.{scanned_as}
-use Rattle.lists.specs.Shorter.{Which, the_first, the_second, neither, is_good, which_of, Hands, HandedBack}
+use Rattle.lists.specs.Shorter.{the_first, the_second, is_good, which_of, Hands, HandedBack}
 use Rattle.lists.specs.declared.Scanned.TheVariants.{Fine, Refused}
 
 -- the list of the word aa, and of the word a

@@ -1,32 +1,21 @@
 -- The scans on plain values: the turns of `scan_bytes`, and the stages of `scan`.
 -- Assumes nothing.
 use mathlib.Core.Path.{◌≡◌, refl, sym, ◌∙◌, ap}
-use mathlib.Core.Bool.{Bool, true, false, cond, not, ◌&&◌}
+use mathlib.Core.Bool.{Bool, true, false, not}
 use mathlib.Core.Option.{Option, none, some}
 use mathlib.Core.List.{List}
 use Prim.Native.Nat.{ℕ, suc, ◌+◌, ◌-◌, ◌≤◌, ◌<◌}
 use native.Mathlib.Numerals.{add-one}
 use native.Mathlib.Omega.{arith}
-use lib.Dec.{eqb, ltb, leb}
+use lib.Dec.{eqb}
 use lib.ListN.{length, get_or, drop, drop_of_length-le}
 use lib.Seq.{drop-cons}
-use borrow.Author.Tests.{lt-ltb, le-ltb, le-leb, lt-leb, eq-eqb}
-use Rattle.theory.specs.Letters.{line_end}
-use Rattle.theory.specs.Refusals.{
-  Refusal as FirstCause,
-  text_limit,
-  is_alphabet,
-  byte_refusal,
-  bytes_refusal,
-  is_unended,
-  or_else,
-  refused_if,
-  text_refusal,
-}
+use borrow.Author.Tests.{lt-ltb, le-ltb}
+use Rattle.theory.specs.Refusals.{Refusal as FirstCause, text_limit, is_alphabet, byte_refusal, bytes_refusal, is_unended, or_else, text_refusal}
 use Rattle.theory.proofs.RefusalLaws.{bytes_pass, bytes_stop}
-use Rattle.refusals.specs.Given.{given, given_as}
+use Rattle.refusals.specs.Given.{given_as}
 use Rattle.refusals.specs.declared.Refusal.{Refusal}
-use Rattle.lists.specs.Scans.{scanned_as, beyond_draws, last_of}
+use Rattle.lists.specs.Scans.{scanned_as, last_of}
 use Rattle.lists.specs.declared.Scanned.{Scanned}
 use Rattle.lists.specs.declared.Scanned.TheVariants.{Fine, Refused}
 

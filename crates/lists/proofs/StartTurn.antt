@@ -3,19 +3,18 @@
 use mathlib.Core.Path.{◌≡◌, refl, sym, ◌∙◌, ap, subst}
 use mathlib.Core.Logic.{by_cases}
 use mathlib.Core.List.{List, [], ◌∷◌, ◌++◌}
-use Prim.Native.Nat.{ℕ, zero, suc, ◌+◌, ◌-◌, ◌≤◌, ◌<◌, min}
+use Prim.Native.Nat.{ℕ, suc, ◌+◌, ◌-◌, ◌≤◌, ◌<◌, min}
 use native.Mathlib.Decide.{dec_le}
 use native.Mathlib.Omega.{arith}
 use lib.ListN.{length, take, drop, replicate, length-drop, drop_of_length-le}
 use lib.Seq.{drop-drop, drop-length}
-use Rattle.theory.specs.Words.{reduced}
 use Rattle.theory.specs.Letters.{letters_in, word_length, first_word, words_of}
 use Rattle.theory.specs.Graphs.{start_points, start_graph, reduced_length}
 use Rattle.theory.proofs.TextLaws.{words_walk, word_letters, letters_drop, letters_le, length-first_word}
 use Rattle.theory.proofs.TableLaws.{length-up_to}
 use Rattle.theory.proofs.StartLaws.{start_edges, start_points_lem, reduced_length_written, written_letters}
 use Rattle.cells.specs.Filled.{filled}
-use Rattle.words.specs.Reduction.{reduced_cells, ReducedInto}
+use Rattle.words.specs.Reduction.{ReducedInto}
 use Rattle.words.specs.declared.Reduced.{Reduced}
 use Rattle.words.proofs.ReduceTurn.{cells_kept}
 use Rattle.lists.specs.Counts.{next_start, StartSizeOf}

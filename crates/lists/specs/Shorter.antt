@@ -32,7 +32,7 @@ which_of n a b =
 abbrev pub Hands : Which → Bor (List ℕ) → Bor (List ℕ) → Bor (List ℕ) → Type 0
 Hands the_first a b r = r ≡ a
 Hands the_second a b r = r ≡ b
-Hands neither a b r = (r.ref_ptr ≡ a.ptr) × (r.now ≡ [])
+Hands neither a b r = (r.ref_ptr ≡ a.ref_ptr) × (r.now ≡ [])
 
 abbrev pub HandedBack : ℕ → Bor (List ℕ) → Bor (List ℕ) → Bor (List ℕ) → Type 0
 HandedBack n a b r = Hands (which_of n a.now b.now) a b r

@@ -1,4 +1,6 @@
 // Lists of words: the first refusal of a text, its counts, the walk from word to word, the shorter of two lists.
+#![tactic(auto)]
+
 ghost use Rattle.std.specs.Prelude.{◌≡◌, ◌-◌, ◌≤◌, length};
 ghost use Rattle.theory.specs.Letters.{letters_in};
 ghost use Rattle.theory.specs.Refusals.{byte_refusal, is_unended, bytes_refusal, text_refusal};
@@ -10,14 +12,14 @@ use letters::Class;
 use refusals::Refusal;
 
 // What scanning a text says.
-#[derive(Drop)]
+#[derive(Clone, Copy)]
 pub enum Scanned {
     Fine,
     Refused(Refusal),
 }
 
 // The letters of a list as written, and its words.
-#[derive(Drop)]
+#[derive(Clone, Copy)]
 pub struct Counts {
     pub letters: usize,
     pub words: usize,
@@ -179,7 +181,7 @@ pub fn shorter<'a>(n: u64, first: &'a [u8], second: &'a [u8]) -> &'a [u8]
 }
 
 // The size of the start graph: its points and its edges.
-#[derive(Drop)]
+#[derive(Clone, Copy)]
 pub struct StartSize {
     pub points: usize,
     pub edges: usize,
