@@ -1,4 +1,6 @@
 // Tables lent from outside: the record that goes with them, the canonical walk, and the counts.
+#![tactic(auto)]
+
 ghost use Rattle.std.specs.Prelude.{◌≡◌, true, ◌+◌, ◌*◌, ◌≤◌, ◌<◌, max, length};
 ghost use Rattle.theory.specs.Words.{inv};
 ghost use Rattle.theory.specs.Tables.{cell};
@@ -12,21 +14,21 @@ ghost use Rattle.tables.specs.Checks.{CheckOutcome};
 use refusals::Refusal;
 
 // What goes with a lent table: the number of generators and the number of points.
-#[derive(Drop)]
+#[derive(Clone, Copy)]
 pub struct Subgroup {
     pub n: u64,
     pub points: u64,
 }
 
 // The index of a subgroup.
-#[derive(Drop)]
+#[derive(Clone, Copy)]
 pub enum Index {
     Finite(u64),
     Infinite,
 }
 
 // The counts of a canonical table.
-#[derive(Drop)]
+#[derive(Clone, Copy)]
 pub struct Figures {
     pub edges: u64,
     pub rank: u64,
@@ -34,14 +36,14 @@ pub struct Figures {
 }
 
 // What the canonical walk says: the lowest faulty cell, or the edges and whether no cell is absent.
-#[derive(Drop)]
+#[derive(Clone, Copy)]
 pub enum Walked {
     Faulty(u64),
     Sound(u64, bool),
 }
 
 // What checking a table says.
-#[derive(Drop)]
+#[derive(Clone, Copy)]
 pub enum Checked {
     Refused(Refusal),
     Counted(Figures),
@@ -75,7 +77,7 @@ pub fn cell_count(s: Subgroup) -> usize
 const ABSENT: u32 = 4294967295;
 
 // What a walk has seen: the greatest point met, the edges, and whether no cell was absent.
-#[derive(Drop)]
+#[derive(Clone, Copy)]
 struct Seen {
     met: u32,
     edges: u64,
