@@ -8,7 +8,7 @@ use mathlib.Core.Bool.{Bool, true, false, cond, not, true≢false}
 use mathlib.Core.Logic.{by_cases}
 use mathlib.Core.Option.{Option, none, some}
 use mathlib.Core.List.{List, [], ◌∷◌, ◌++◌, map, append_assoc}
-use Prim.Native.Nat.{ℕ, suc, ◌+◌, ◌-◌, ◌*◌, ◌≤◌, ◌<◌}
+use Prim.Native.Nat.{ℕ, suc, ◌-◌, ◌*◌, ◌≤◌, ◌<◌}
 use native.Mathlib.Decide.{ℕ_discrete}
 use native.Mathlib.Omega.{arith}
 use lib.Dec.{eqb, ltb}
@@ -48,7 +48,7 @@ use Rattle.words.specs.declared.Reduced.{Reduced}
 use Rattle.words.proofs.ReduceTurn.{cells_kept}
 use Rattle.lists.specs.Scans.{scanned_as}
 use Rattle.lists.specs.declared.Scanned.{Scanned}
-use Rattle.lists.specs.declared.Scanned.TheVariants.{Fine as ScannedFine, Refused as ScannedRefused}
+use Rattle.lists.specs.declared.Scanned.TheVariants.{Refused as ScannedRefused}
 use Rattle.tables.specs.Walks.{walked_as}
 use Rattle.tables.specs.declared.Walked.{Walked}
 use Rattle.tables.specs.declared.Walked.TheVariants.{Faulty, Sound}

@@ -14,7 +14,6 @@ use Rattle.theory.specs.TableRefusals.{member_refusal}
 use Rattle.theory.specs.Subgroups.{TableOf}
 use Rattle.theory.proofs.Main.{member_iff_reads_back}
 use Rattle.members.specs.Members.{query_word, answer_for, answer_as}
-use Rattle.members.specs.declared.Answer.{Answer}
 use Rattle.members.specs.declared.Answer.TheVariants.{Inside, Outside}
 
 pub member_exact : {n N : ℕ} {t : List ℕ} {ws : List (List ℕ)} → TableOf n N t ws → (query : List ℕ) (room : ℕ)

@@ -1,9 +1,9 @@
 -- The turns of `read` on plain values: i letters lead from the base to v, and the rest is still to be read. The cell that `step` looks up.
 -- Assumes nothing.
-use mathlib.Core.Path.{◌≡◌, refl, sym, ◌∙◌, ap, subst}
+use mathlib.Core.Path.{◌≡◌, refl, sym, ◌∙◌, ap}
 use mathlib.Core.Logic.{by_cases}
-use mathlib.Core.List.{List, [], ◌∷◌}
-use Prim.Native.Nat.{ℕ, zero, suc, ◌+◌, ◌*◌, ◌≤◌, ◌<◌}
+use mathlib.Core.List.{List, ◌∷◌}
+use Prim.Native.Nat.{ℕ, suc, ◌+◌, ◌*◌, ◌≤◌, ◌<◌}
 use native.Mathlib.Decide.{ℕ_discrete}
 use native.Mathlib.Numerals.{add-one}
 use native.Mathlib.Omega.{arith}
@@ -13,9 +13,8 @@ use borrow.Author.Tests.{eq-eqb, ne_eqb}
 use Rattle.theory.specs.Letters.{usual}
 use Rattle.theory.specs.Tables.{absent, Cells, cell, stopped, reading_from, reading_of}
 use Rattle.theory.specs.Canonical.{Canonical}
-use Rattle.theory.proofs.TableLaws.{cell_in, cell_bounded, length_usual, get_or_usual}
+use Rattle.theory.proofs.TableLaws.{cell_bounded, length_usual, get_or_usual}
 use Rattle.members.specs.Readings.{read_as, reading_as}
-use Rattle.members.specs.declared.Reading.{Reading}
 use Rattle.members.specs.declared.Reading.TheVariants.{Stopped, Ended}
 
 -- ── One cell ──

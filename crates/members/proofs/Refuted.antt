@@ -29,7 +29,6 @@ use Rattle.theory.specs.Canonical.{
 use Rattle.theory.specs.TableRefusals.{is_lent, cell_refusal, member_refusal}
 use Rattle.refusals.specs.declared.Refusal.{Refusal}
 use Rattle.members.specs.Members.{answer_as, MemberOutcome}
-use Rattle.members.specs.declared.Answer.{Answer}
 use Rattle.members.specs.declared.Answer.TheVariants.{Refused, Inside, Outside}
 
 -- the table of one point and no edge

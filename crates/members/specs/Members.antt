@@ -2,7 +2,7 @@
 --   answer_as n N t query room == the first refusal; else Inside exactly if the table accepts the query's word
 --   MemberOutcome             <-> r is that answer, and the work cells are as they were if it is a refusal, else the needed ones are 0
 -- The needed cells are as many as the query has bytes. Assumes nothing.
-use Rattle.std.specs.Prelude.{◌≡◌, Bool, true, false, cond, List, map, ℕ, length}
+use Rattle.std.specs.Prelude.{◌≡◌, cond, List, map, ℕ, length}
 use Rattle.std.proofs.Math.Option.{Option, none, some}
 use Rattle.theory.specs.Letters.{letter_of}
 use Rattle.theory.specs.Refusals.{Refusal as FirstCause}

@@ -1,4 +1,6 @@
 // Membership on a lent table: reading a reduced query from the base.
+#![tactic(auto)]
+
 ghost use Rattle.std.specs.Prelude.{◌≡◌, true, ◌*◌, ◌≤◌, ◌<◌, length, take};
 ghost use Rattle.std.proofs.Math.Option.{none};
 ghost use Rattle.theory.specs.Letters.{usual};
@@ -16,7 +18,7 @@ use refusals::{Found, Refusal};
 use tables::{Subgroup, Walked};
 
 // How far a reading came: stopped after `count` letters at `point` for want of `letter`, or ended at `point`.
-#[derive(Drop)]
+#[derive(Clone, Copy)]
 pub enum Reading {
     Stopped {
         count: usize,
@@ -29,7 +31,7 @@ pub enum Reading {
 }
 
 // What is said of a query.
-#[derive(Drop)]
+#[derive(Clone, Copy)]
 pub enum Answer {
     Refused(Refusal),
     Inside,
