@@ -28,7 +28,6 @@ use Rattle.tables.specs.declared.Walked.TheVariants.{Faulty, Sound}
 use Rattle.tables.proofs.WalkLaws.{walk_sound, walk_faulty}
 use Rattle.equals.specs.Equals.{same_cells, equal_for, equal_as}
 use Rattle.equals.specs.Faults.{or_cell, first_fault, fault_as}
-use Rattle.equals.specs.declared.Equality.{Equality}
 use Rattle.equals.specs.declared.Equality.TheVariants.{Refused, Yes, No}
 use Rattle.equals.specs.declared.Fault.{Fault}
 use Rattle.equals.specs.declared.Fault.TheVariants.{At, Nowhere}

@@ -19,7 +19,6 @@ use Rattle.theory.proofs.RefusalLaws.{and_true}
 use Rattle.theory.proofs.TableLaws.{cell_bounded}
 use Rattle.theory.proofs.OneTable.{one_table, rows_of_cells, cells_of_rows}
 use Rattle.equals.specs.Equals.{same_cells, equal_as}
-use Rattle.equals.specs.declared.Equality.{Equality}
 use Rattle.equals.specs.declared.Equality.TheVariants.{Yes, No}
 use Rattle.equals.proofs.CellsTurn.{same_equal, equal_same}
 use Rattle.equals.proofs.EqualLaws.{Fine, fine, answered}

@@ -29,7 +29,6 @@ use Rattle.theory.specs.Canonical.{
 use Rattle.theory.specs.TableRefusals.{is_lent, cell_refusal, equal_refusal}
 use Rattle.refusals.specs.declared.Refusal.{Refusal}
 use Rattle.equals.specs.Equals.{same_cells, equal_as, EqualOutcome}
-use Rattle.equals.specs.declared.Equality.{Equality}
 use Rattle.equals.specs.declared.Equality.TheVariants.{Refused, Yes, No}
 
 -- one point and no edge; one point and a loop

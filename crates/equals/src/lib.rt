@@ -1,4 +1,6 @@
 // Equality of two lent tables.
+#![tactic(auto)]
+
 ghost use Rattle.std.specs.Prelude.{◌≡◌, true, ◌≤◌, length, take};
 ghost use Rattle.std.proofs.Math.Option.{none};
 ghost use Rattle.theory.specs.Refusals.{is_alphabet};
@@ -10,7 +12,7 @@ use refusals::Refusal;
 use tables::{Subgroup, Walked};
 
 // What comparing two tables says.
-#[derive(Drop)]
+#[derive(Clone, Copy)]
 pub enum Equality {
     Refused(Refusal),
     Yes,
@@ -18,7 +20,7 @@ pub enum Equality {
 }
 
 // The lowest faulty cell, or none.
-#[derive(Drop)]
+#[derive(Clone, Copy)]
 enum Fault {
     At(u64),
     Nowhere,
