@@ -1,18 +1,18 @@
 -- The contract of `note_paths` fixes the cells.
 --   paths_determined : two outcomes that conform on one input are equal
 -- Assumes nothing.
-use mathlib.Core.Path.{◌≡◌, refl, sym, ◌∙◌, ap, subst}
+use mathlib.Core.Path.{◌≡◌, sym, ◌∙◌, ap}
 use mathlib.Core.Logic.{by_cases}
 use mathlib.Core.Option.{some-injective}
-use mathlib.Core.List.{List, ◌++◌}
-use Prim.Native.Nat.{ℕ, zero, ◌+◌, ◌-◌, ◌*◌, ◌≤◌, ◌<◌}
+use mathlib.Core.List.{List}
+use Prim.Native.Nat.{ℕ, ◌+◌, ◌-◌, ◌*◌, ◌<◌}
 use native.Mathlib.Decide.{ℕ_discrete, dec_lt}
 use native.Mathlib.Omega.{arith}
-use lib.ListN.{length, get_or, drop}
+use lib.ListN.{length, get_or}
 use lib.Seq.{ext_get_or, get_or-drop}
 use Rattle.theory.specs.Basis.{Spot}
 use Rattle.theory.proofs.PathLaws.{spot}
-use Rattle.paths.specs.Paths.{Ready, PathCells, PathsOutcome}
+use Rattle.paths.specs.Paths.{PathCells, PathsOutcome}
 
 module _ {n N : ℕ} {t a b : List ℕ} (p : PathCells n N t a) (q : PathCells n N t b) where
   -- the spots noted are the same

@@ -17,7 +17,7 @@ use Rattle.theory.specs.Letters.{usual}
 use Rattle.theory.specs.Tables.{absent, Cells, cell}
 use Rattle.theory.specs.Basis.{first_met, path_of}
 use Rattle.theory.proofs.WordLaws.{by_test}
-use Rattle.theory.proofs.PathLaws.{spot, Step, met, path_base, path_step, path_length}
+use Rattle.theory.proofs.PathLaws.{spot, Step, path_base, path_step, path_length}
 use Rattle.paths.specs.Paths.{Ready, PathsOutcome}
 use Rattle.paths.specs.Notes.{noted, is_new, Noting, met_after, noted_after}
 use Rattle.paths.proofs.MetLaws.{ready_sizes, ready_setting, Met, met_first, row_met, met_old, first_here, next_here, met_new, met_row}

@@ -1,4 +1,6 @@
 // Paths of points: one pass over a canonical table notes for each point from where it is first met, and how far it is from the base.
+#![tactic(auto)]
+
 ghost use Rattle.std.specs.Prelude.{◌≡◌, ◌*◌, ◌≤◌, ◌<◌, length};
 ghost use Rattle.theory.specs.Tables.{cell};
 ghost use Rattle.paths.specs.Paths.{Ready, PathsOutcome};
