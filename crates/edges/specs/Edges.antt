@@ -12,7 +12,7 @@ use Rattle.theory.specs.Refusals.{is_alphabet}
 use Rattle.theory.specs.TableRefusals.{is_lent}
 use Rattle.theory.specs.Tables.{Cells, cell}
 use Rattle.theory.specs.Canonical.{Canonical, greatest_met, rows_before}
-use Rattle.theory.specs.Basis.{Spot, scan, is_edge, is_path_edge, those, outside_edges}
+use Rattle.theory.specs.Basis.{Spot, scan, is_edge, is_path_edge, those}
 use Rattle.edges.specs.declared.Tally.{Tally}
 
 pub record Sound (n N : ℕ) (t : List ℕ) : Type 0 where

@@ -1,4 +1,6 @@
 // Edges outside the paths: told from the table alone, and numbered from a few marks.
+#![tactic(auto)]
+
 ghost use Rattle.std.specs.Prelude.{◌≡◌, true, ◌++◌, ◌+◌, ◌*◌, ◌≤◌, ◌<◌, length, take, drop};
 ghost use Rattle.theory.specs.Letters.{usual};
 ghost use Rattle.theory.specs.Tables.{absent, cell};
@@ -12,7 +14,7 @@ use tables::Subgroup;
 const ABSENT: u32 = 4294967295;
 
 // The greatest point met, and how many edges outside the paths there are, up to some place of a table.
-#[derive(Drop)]
+#[derive(Clone, Copy)]
 struct Tally {
     met: u32,
     edges: u32,

@@ -1,0 +1,14 @@
+-- `edges::pass_rows` meets its contract. The loop: the tally before row v (`TallyLaws`).
+-- Assumes nothing.
+use Rattle.theory.specs.Letters.{usual}
+use Rattle.theory.specs.Tables.{cell}
+use Rattle.edges.specs.Edges.{tally_before}
+use mathlib.Core.Path.{◌≡◌}
+use Prim.Native.Nat.{◌-◌, ◌≤◌}
+use Rattle.edges.proofs.pass_rows.Given as goal
+
+abbrev pub invariant-loop-v : goal.invariant-loop-v
+invariant-loop-v l = (l.v ≤ l.to) × (l.sum ≡ tally_before (cell l.s.n l.s.points l.table) l.s.points (usual l.s.n) l.v)
+
+abbrev pub decreases-loop-v : goal.decreases-loop-v
+decreases-loop-v l = l.to - l.v
