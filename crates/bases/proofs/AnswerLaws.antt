@@ -6,21 +6,21 @@
 -- Assumes nothing.
 use mathlib.Core.Path.{◌≡◌, refl, sym, ◌∙◌, ap, subst}
 use mathlib.Core.Logic.{⊎_elim, ◌↔◌}
-use mathlib.Core.Bool.{Bool, true, false, cond, not}
+use mathlib.Core.Bool.{Bool, true, false, not}
 use mathlib.Core.Option.{Option, none, some}
-use mathlib.Core.List.{List, [], ◌∷◌, ◌++◌}
-use Prim.Native.Nat.{ℕ, zero, suc, ◌+◌, ◌*◌, ◌≤◌, ◌<◌}
+use mathlib.Core.List.{List, ◌++◌}
+use Prim.Native.Nat.{ℕ, ◌+◌, ◌*◌, ◌≤◌, ◌<◌}
 use native.Mathlib.Omega.{arith}
 use lib.Dec.{eqb, ltb}
-use lib.ListN.{length, take, drop, replicate}
+use lib.ListN.{length, drop, replicate}
 use lib.Seq.{sets, sets-eq, drop-drop}
 use borrow.Author.Tests.{lt-ltb, le-ltb, ltb-true, ltb-false, not-false}
 use Rattle.theory.specs.Letters.{usual}
-use Rattle.theory.specs.Refusals.{Refusal as FirstCause, CauseShort, turn, First, Only, is_alphabet, or_else, refused_if}
+use Rattle.theory.specs.Refusals.{Refusal as FirstCause, turn, First, is_alphabet, or_else, refused_if}
 use Rattle.theory.specs.TableRefusals.{is_lent, at_cell, cell_refusal}
 use Rattle.theory.specs.Tables.{cell}
 use Rattle.theory.specs.Canonical.{faulty_cell}
-use Rattle.theory.specs.Basis.{scan, basis_of}
+use Rattle.theory.specs.Basis.{scan}
 use Rattle.theory.specs.Texts.{list_text}
 use Rattle.theory.proofs.RefusalLaws.{alphabet_in}
 use Rattle.theory.proofs.CanonicalLaws.{table_none_canonical}
@@ -50,7 +50,7 @@ use Rattle.tables.specs.declared.Walked.{Walked}
 use Rattle.tables.specs.declared.Walked.TheVariants.{Faulty, Sound}
 use Rattle.tables.proofs.WalkLaws.{walk_sound, walk_faulty}
 use Rattle.paths.specs.Paths.{Ready, PathsOutcome}
-use Rattle.bases.specs.Words.{Pathed, basis_in, text_of, size_in}
+use Rattle.bases.specs.Words.{Pathed, text_of, size_in}
 use Rattle.bases.specs.Bases.{basis_words, basis_text, BasisCause, early_refusal, basis_refusal, answer_for, work_for, out_for, BasisOutcome}
 use Rattle.bases.specs.declared.Size.{Size}
 use Rattle.bases.specs.declared.BasisAnswer.{BasisAnswer}

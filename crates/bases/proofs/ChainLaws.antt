@@ -6,11 +6,10 @@
 --   line_done : the line of a basis word from its parts
 -- Assumes nothing.
 use mathlib.Core.Path.{◌≡◌, refl, sym, ◌∙◌, ap, subst}
-use mathlib.Core.Bool.{Bool, true, false, not, ◌&&◌}
+use mathlib.Core.Bool.{false}
 use mathlib.Core.List.{List, [], ◌∷◌, ◌++◌, map, append_assoc, append-nil}
-use Prim.Native.Nat.{ℕ, zero, suc, ◌+◌, ◌-◌, ◌*◌, ◌≤◌, ◌<◌}
+use Prim.Native.Nat.{ℕ, zero, suc, ◌+◌, ◌-◌, ◌≤◌, ◌<◌}
 use native.Mathlib.Nat.{add-zero}
-use native.Mathlib.Numerals.{add-one}
 use native.Mathlib.Omega.{arith}
 use lib.Dec.{eqb}
 use lib.ListN.{length, get_or, set, length-append, length-map, length-set}
@@ -20,7 +19,7 @@ use Rattle.theory.specs.Words.{inv, inverse_by, inverse_of}
 use Rattle.theory.specs.Letters.{byte_of, line_end}
 use Rattle.theory.proofs.WordLaws.{letters, inverse_append}
 use Rattle.theory.proofs.BasisLaws.{length_inverse}
-use Rattle.bases.specs.Chains.{depth_of, noted_path, Chain, Linked, is_noted_step, path_bytes, back_bytes, loop_bytes}
+use Rattle.bases.specs.Chains.{depth_of, noted_path, Chain, is_noted_step, path_bytes, back_bytes, loop_bytes}
 
 -- ── Runs of stores ──
 

@@ -3,35 +3,33 @@
 --   outside_capital, outside_absent, outside_forth, outside_back : the test for an edge that no path uses
 --   line_text : the line of such an edge
 -- Assumes nothing.
-use mathlib.Core.Path.{◌≡◌, refl, sym, ◌∙◌, ap, subst}
+use mathlib.Core.Path.{◌≡◌, refl, sym, ◌∙◌, ap}
 use mathlib.Core.Logic.{by_cases}
-use mathlib.Core.Bool.{Bool, true, false, not, ◌&&◌, ◌||◌}
-use mathlib.Core.Option.{Option, none, some}
+use mathlib.Core.Bool.{Bool, true, false, not, ◌&&◌}
 use mathlib.Core.List.{List, [], ◌∷◌, ◌++◌, map, append_assoc}
-use Prim.Native.Nat.{ℕ, zero, suc, ◌+◌, ◌*◌, ◌%◌, ◌≤◌, ◌<◌}
+use Prim.Native.Nat.{ℕ, zero, suc, ◌+◌, ◌*◌, ◌%◌, ◌<◌}
 use native.Mathlib.Decide.{ℕ_discrete}
 use native.Mathlib.Omega.{arith}
 use lib.Dec.{eqb}
 use lib.ListN.{length, get_or, length-append}
-use borrow.Author.Tests.{eq-eqb, ne_eqb, eqb-true, eqb-false, not-true, not-false}
+use borrow.Author.Tests.{eq-eqb, ne_eqb, eqb-false, not-true}
 use Rattle.theory.specs.Words.{inv, inverse_of}
 use Rattle.theory.specs.Letters.{byte_of, line_end, usual}
 use Rattle.theory.specs.Tables.{absent, Cells, Leads, cell}
 use Rattle.theory.specs.Graphs.{is_lower}
-use Rattle.theory.specs.Basis.{Spot, first_met, path_of, is_spot, is_path_step, is_path_edge, those, is_edge, edges_of, outside_edges, basis_word, scan}
+use Rattle.theory.specs.Basis.{first_met, path_of, is_spot, is_path_step, is_path_edge, is_edge, edges_of, outside_edges, basis_word}
 use Rattle.theory.specs.Texts.{list_text}
 use Rattle.theory.proofs.RefusalLaws.{and_true}
 use Rattle.theory.proofs.TableLaws.{length_usual, get_or_usual}
 use Rattle.theory.proofs.EdgeLaws.{mem_those, mem_scan}
 use Rattle.theory.proofs.PathLaws.{Setting, spot, Step, leads_in, step_leads, path_base, path_step, path_length}
-use Rattle.theory.proofs.BasisLaws.{basis_word_plain, length_inverse}
-use Rattle.tables.specs.Cells.{Inside}
+use Rattle.theory.proofs.BasisLaws.{basis_word_plain}
 use Rattle.tables.proofs.CellTurn.{Sizes}
 use Rattle.paths.proofs.MetLaws.{ready_sizes, ready_setting}
 use Rattle.bases.specs.Chains.{depth_of, noted_path, Chain, Linked, is_noted_step, path_bytes, back_bytes, loop_bytes}
-use Rattle.bases.specs.Words.{Pathed, AtSpot, is_outside, basis_in, text_of}
+use Rattle.bases.specs.Words.{Pathed, is_outside, text_of}
 use Rattle.bases.proofs.ChainLaws.{map-append, length_loop_bytes}
-use Rattle.bases.proofs.SpotLaws.{one_outside, one_used}
+use Rattle.bases.proofs.SpotLaws.{one_outside}
 
 empty : {A : Type 0} (l : List A) → length l ≡ 0 → l ≡ []
 empty [] e = refl

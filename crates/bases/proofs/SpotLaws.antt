@@ -4,19 +4,17 @@
 --   basis_scan : the words of all spots are the basis
 -- Assumes nothing.
 use mathlib.Core.Path.{◌≡◌, refl, sym, ◌∙◌, ap}
-use mathlib.Core.Bool.{Bool, true, false, cond, not, ◌&&◌}
+use mathlib.Core.Bool.{Bool, true, false, not, ◌&&◌}
 use mathlib.Core.List.{List, [], ◌∷◌, ◌++◌, map, append_assoc}
-use Prim.Native.Nat.{ℕ, zero, suc, ◌+◌, ◌≤◌, ◌<◌}
-use native.Mathlib.Omega.{arith}
-use lib.ListN.{length, take, drop, length-append, take-append-drop}
+use Prim.Native.Nat.{ℕ, ◌+◌}
+use lib.ListN.{length, length-append}
 use Rattle.theory.specs.Letters.{byte_of, line_end}
 use Rattle.theory.specs.Tables.{Cells}
-use Rattle.theory.specs.Basis.{Spot, spots_of, scan, is_path_edge, those, is_edge, edges_of, outside_edges, basis_word, basis_of}
+use Rattle.theory.specs.Basis.{Spot, scan, is_path_edge, those, is_edge, edges_of, outside_edges, basis_word, basis_of}
 use Rattle.theory.specs.Texts.{list_text}
 use Rattle.theory.proofs.WordLaws.{by_test}
 use Rattle.tables.proofs.ScanLaws.{those_append}
 use Rattle.bases.specs.Words.{is_outside, basis_in, text_of, size_in, grown}
-use Rattle.bases.specs.declared.Size.{Size}
 
 -- those that pass one test, then another, pass both
 those_both : (f g : Spot → Bool) (l : List Spot) → those (λ s. f s && g s) l ≡ those g (those f l)

@@ -5,28 +5,28 @@
 --   Lines <-> from `at` on the text of the first y spots of row v is written; lines_first, lines_turn, lines_done
 --   Rows <-> the text of the first v rows is written; rows_first, rows_turn, rows_done
 -- Assumes nothing.
-use mathlib.Core.Path.{◌≡◌, refl, sym, ◌∙◌, ap, subst}
-use mathlib.Core.Bool.{Bool, true, false, not}
-use mathlib.Core.List.{List, [], ◌∷◌, ◌++◌, append-nil}
+use mathlib.Core.Path.{◌≡◌, refl, sym, ◌∙◌, ap}
+use mathlib.Core.Bool.{true, false}
+use mathlib.Core.List.{List, [], ◌∷◌, ◌++◌}
 use Prim.Native.Nat.{ℕ, zero, suc, ◌+◌, ◌-◌, ◌*◌, ◌≤◌, ◌<◌}
 use native.Mathlib.Nat.{add-zero}
 use native.Mathlib.Numerals.{add-one}
 use native.Mathlib.Omega.{arith}
-use lib.ListN.{length, get_or, take, drop, length-append, length-map, take-append-drop, get_or-map}
+use lib.ListN.{length, take, drop, length-append, length-map, take-append-drop, get_or-map}
 use lib.Seq.{sets, length-sets, take-suc, take_all}
 use Rattle.theory.specs.Letters.{usual}
 use Rattle.theory.specs.Tables.{Cells, cell}
-use Rattle.theory.specs.Basis.{Spot, spots_of, scan, basis_of}
+use Rattle.theory.specs.Basis.{Spot, spots_of, scan}
 use Rattle.theory.specs.Texts.{list_text}
 use Rattle.theory.proofs.WordLaws.{by_test}
 use Rattle.theory.proofs.TableLaws.{length_usual, get_or_usual}
 use Rattle.theory.proofs.PathLaws.{spot}
 use Rattle.tables.proofs.CellTurn.{Sizes}
 use Rattle.bases.specs.Chains.{depth_of, loop_bytes}
-use Rattle.bases.specs.Words.{Pathed, AtSpot, is_outside, basis_in, text_of, size_in, grown, Small}
+use Rattle.bases.specs.Words.{Pathed, is_outside, basis_in, text_of, size_in, grown, Small}
 use Rattle.bases.specs.declared.Size.{Size}
-use Rattle.bases.proofs.ChainLaws.{sets_append, length_loop_bytes}
-use Rattle.bases.proofs.SpotLaws.{text_of-append, size_in-append, one_outside, one_used, text_none, basis_scan}
+use Rattle.bases.proofs.ChainLaws.{sets_append}
+use Rattle.bases.proofs.SpotLaws.{text_of-append, size_in-append, one_outside, one_used, text_none}
 use Rattle.bases.proofs.PathedLaws.{pathed_sizes, depth_small, far_in, line_text, line_length}
 
 -- sizes are added one after the other

@@ -7,7 +7,7 @@
 --   path_bytes, back_bytes    == the bytes of the path of x, and of its inverse
 --   loop_bytes N work v y x  == the line of a basis word: path of v, letter y, inverse of the path of x, line end
 -- Assumes nothing.
-use Rattle.std.specs.Prelude.{◌≡◌, Bool, not, ◌&&◌, List, [], ◌∷◌, ◌++◌, map, ℕ, zero, suc, ◌+◌, ◌*◌, ◌≤◌, ◌<◌, eqb, length, get_or}
+use Rattle.std.specs.Prelude.{Bool, not, ◌&&◌, List, [], ◌∷◌, ◌++◌, map, ℕ, zero, suc, ◌+◌, ◌*◌, ◌≤◌, ◌<◌, eqb, length, get_or}
 use Rattle.theory.specs.Words.{inverse_of}
 use Rattle.theory.specs.Letters.{byte_of, line_end}
 

@@ -7,9 +7,8 @@
 --   size_in, grown   == how many they are and how many bytes; a size and that of more spots
 --   Small size k         <-> a size as k rows may have it, so that no sum wraps
 -- Assumes nothing.
-use Rattle.std.specs.Prelude.{◌≡◌, Bool, not, ◌&&◌, List, map, ℕ, ◌+◌, ◌*◌, ◌≤◌, ◌<◌, length}
-use Rattle.theory.specs.Letters.{usual}
-use Rattle.theory.specs.Tables.{Cells, cell}
+use Rattle.std.specs.Prelude.{Bool, not, ◌&&◌, List, map, ℕ, ◌+◌, ◌*◌, ◌≤◌, ◌<◌, length}
+use Rattle.theory.specs.Tables.{Cells}
 use Rattle.theory.specs.Basis.{Spot, is_path_edge, those, is_edge, basis_word}
 use Rattle.theory.specs.Texts.{list_text}
 use Rattle.paths.specs.Paths.{Ready, PathCells}

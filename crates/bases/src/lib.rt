@@ -1,4 +1,6 @@
 // A basis of the subgroup of a lent table, written as a list text.
+#![tactic(auto)]
+
 ghost use Rattle.std.specs.Prelude.{◌≡◌, true, [], ◌∷◌, ◌+◌, ◌*◌, ◌≤◌, ◌<◌, length, get_or};
 ghost use Rattle.std.proofs.Math.Option.{none};
 ghost use Rattle.std.proofs.lemmas.List.Edits.{sets};
@@ -15,14 +17,14 @@ use refusals::{Found, Refusal};
 use tables::{Subgroup, Walked};
 
 // What writing a basis says: a refusal, or how many words and bytes were written.
-#[derive(Drop)]
+#[derive(Clone, Copy)]
 pub enum BasisAnswer {
     Refused(Refusal),
     Written { words: u64, bytes: u64 },
 }
 
 // How many words some edges give, and the bytes of their text.
-#[derive(Drop)]
+#[derive(Clone, Copy)]
 struct Size {
     words: u64,
     bytes: u64,
