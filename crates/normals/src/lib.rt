@@ -1,4 +1,6 @@
 // Whether the subgroup of a lent table is normal.
+#![tactic(auto)]
+
 ghost use Rattle.std.specs.Prelude.{◌≡◌, ◌*◌, ◌≤◌, ◌<◌, length};
 ghost use Rattle.std.proofs.Math.Option.{none};
 ghost use Rattle.theory.specs.Letters.{usual};
@@ -14,7 +16,7 @@ use refusals::{Found, Refusal};
 use tables::Subgroup;
 
 // What is said of a subgroup: a refusal, or whether it is normal.
-#[derive(Drop)]
+#[derive(Clone, Copy)]
 pub enum Judged {
     Refused(Refusal),
     Normal,

@@ -1,0 +1,29 @@
+use Rattle.normals.proofs.MapTurn.{follow_first, follow_carrying, follow_turn, follow_stuck, follow_row, follow_done, behind_same, behind_then, behind_set, behind_turn, behind_cleared}
+use Rattle.paths.proofs.MetLaws.{ready_sizes}
+use mathlib.Core.Path.{refl, sym}
+use native.Mathlib.Omega.{arith}
+use Rattle.normals.proofs.leads_back.Goals as goal
+
+pub overflow_mul-w : goal.overflow_mul-w
+overflow_mul-w c = omega (arith, (ready_sizes c.requires.0).letters)
+
+pub loop-v-init : goal.loop-v-init
+loop-v-init c = (follow_first c.requires.0 c.requires.1 c.args.work.now (omega (arith, c.requires.0.room_for)) refl, behind_same)
+
+pub carry-next-requires : goal.carry-next-requires
+carry-next-requires c = follow_carrying c.requires.0 c.requires.1 c.loop-y.invariant.0 c.loop-y.invariant.1 c.loop-y-test.true
+
+pub returns-then-next : goal.returns-then-next
+returns-then-next c = record { back = sym (follow_stuck c.requires.0 c.requires.1 c.loop-y.invariant.0 c.loop-y.invariant.1 c.loop-y-test.true c.carry-next.ensures.met c.carry-next.ensures.cells c.if-next.true); cleared = behind_cleared _ _ _ (behind_then (behind_set _ _ _ _ (omega (arith, c.requires.1)) refl) (behind_then c.loop-v.invariant.1 (behind_then c.loop-y.invariant.2 (behind_turn c.requires.0 c.requires.1 c.loop-y.invariant.0 c.loop-y.invariant.1 c.loop-y-test.true c.carry-next.ensures.met c.carry-next.ensures.cells)))) c.fill.ensures.filled }
+
+pub overflow_add-y : goal.overflow_add-y
+overflow_add-y c = omega (arith, (ready_sizes c.requires.0).letters, c.loop-y-test.true)
+
+pub loop-y-preserved : goal.loop-y-preserved
+loop-y-preserved c = (follow_turn c.requires.0 c.requires.1 c.loop-y.invariant.0 c.loop-y.invariant.1 c.loop-y-test.true c.carry-next.ensures.met c.carry-next.ensures.cells c.if-next.false, c.loop-y.invariant.1, behind_then c.loop-y.invariant.2 (behind_turn c.requires.0 c.requires.1 c.loop-y.invariant.0 c.loop-y.invariant.1 c.loop-y-test.true c.carry-next.ensures.met c.carry-next.ensures.cells))
+
+pub loop-v-preserved : goal.loop-v-preserved
+loop-v-preserved c = (follow_row c.requires.0 c.requires.1 c.loop-y.invariant.0 c.loop-y.invariant.1 c.loop-y-test.false, behind_then c.loop-v.invariant.1 c.loop-y.invariant.2)
+
+pub returns : goal.returns
+returns c = record { back = sym (follow_done c.requires.0 c.requires.1 c.loop-v.invariant.0 c.loop-v-test.false); cleared = behind_cleared _ _ _ (behind_then (behind_set _ _ _ _ (omega (arith, c.requires.1)) refl) c.loop-v.invariant.1) c.fill-2.ensures.filled }
