@@ -1,5 +1,5 @@
 -- Signed numbers as the machine holds them, all of them small: minus turns the sign, and the size is what is left without it.
---   read-back               : the bits of a small number read as that number
+--   read_back               : the bits of a small number read as that number
 --   signed_back, signed_plain : a number with its sign
 --   size_turned, size_kept  : the size of a number below 0, and of another
 --   below                   : the test for a number below 0

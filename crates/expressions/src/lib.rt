@@ -1,4 +1,6 @@
 // A member of the subgroup of a lent table, expressed by the signed numbers of basis words.
+#![tactic(auto)]
+
 ghost use Rattle.std.specs.Prelude.{◌≡◌, ◌++◌, map, ◌+◌, ◌*◌, ◌≤◌, ◌<◌, nat_abs, length, take, drop};
 ghost use Rattle.std.proofs.Math.Option.{none};
 ghost use Rattle.std.proofs.lemmas.List.Edits.{sets};
@@ -14,7 +16,7 @@ use refusals::{Found, Refusal};
 use tables::Subgroup;
 
 // What expressing a query says: a refusal, inside with how many numbers were written, or outside.
-#[derive(Drop)]
+#[derive(Clone, Copy)]
 pub enum Expressed {
     Refused(Refusal),
     Inside(u64),

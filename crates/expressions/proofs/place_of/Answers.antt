@@ -1,0 +1,38 @@
+-- `expressions::place_of` meets its contract. The letter is lower-case and the cell is its own, or a capital and the cell is where it leads (`PlaceLaws`).
+-- Assumes nothing.
+use mathlib.Core.Path.{◌∙◌}
+use native.Mathlib.Omega.{arith}
+use mir.Syntax.{w32}
+use mir.ValLaws.{to_z-of_z}
+use Rattle.expressions.proofs.PlaceLaws.{place_small, inverse_in, place_forth, place_back_lem}
+use Rattle.expressions.proofs.place_of.Goals as goal
+
+pub overflow_mul-v : goal.overflow_mul-v
+overflow_mul-v c = omega (arith, place_small _ _ _ _ c.requires.0 c.requires.1 c.requires.2 c.requires.4)
+
+pub overflow_add-v : goal.overflow_add-v
+overflow_add-v c = omega (arith, place_small _ _ _ _ c.requires.0 c.requires.1 c.requires.2 c.requires.4)
+
+pub overflow_add-v-then-y-eq0 : goal.overflow_add-v-then-y-eq0
+overflow_add-v-then-y-eq0 c = omega (arith, place_small _ _ _ _ c.requires.0 c.requires.1 c.requires.2 c.requires.4)
+
+pub signed-requires : goal.signed-requires
+signed-requires c = place_small _ _ _ _ c.requires.0 c.requires.1 c.requires.2 c.requires.4
+
+pub returns-then-y-eq0 : goal.returns-then-y-eq0
+returns-then-y-eq0 c = record { place = to_z-of_z w32 _ (record { sfits = c.signed.type_inv }) ∙ c.signed.ensures.signed ∙ place_forth _ _ _ _ c.if-y-eq0.true }
+
+pub overflow_mul-x : goal.overflow_mul-x
+overflow_mul-x c = omega (arith, place_small _ _ _ _ c.requires.0 c.requires.1 c.requires.3 c.requires.4)
+
+pub overflow_add-x : goal.overflow_add-x
+overflow_add-x c = omega (arith, c.inverse.ensures.inverse, place_small _ _ _ _ c.requires.0 c.requires.1 c.requires.3 (inverse_in _ _ c.requires.4))
+
+pub overflow_add-x-2 : goal.overflow_add-x-2
+overflow_add-x-2 c = omega (arith, c.inverse.ensures.inverse, place_small _ _ _ _ c.requires.0 c.requires.1 c.requires.3 (inverse_in _ _ c.requires.4))
+
+pub signed-requires-2 : goal.signed-requires-2
+signed-requires-2 c = omega (arith, c.inverse.ensures.inverse, place_small _ _ _ _ c.requires.0 c.requires.1 c.requires.3 (inverse_in _ _ c.requires.4))
+
+pub returns : goal.returns
+returns c = record { place = to_z-of_z w32 _ (record { sfits = c.signed-2.type_inv }) ∙ c.signed-2.ensures.signed ∙ place_back_lem _ _ _ _ c.if-y-eq0.false c.inverse.ensures.inverse }
