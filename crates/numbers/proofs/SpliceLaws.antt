@@ -5,7 +5,7 @@
 --   length_spliced : the length is kept
 --   written_then   : what two writings, one behind the other, have written
 -- Assumes nothing.
-use mathlib.Core.Path.{◌≡◌, refl, sym, ◌∙◌, ap}
+use mathlib.Core.Path.{◌≡◌, sym, ◌∙◌, ap}
 use mathlib.Core.List.{List, [], ◌∷◌, ◌++◌, append_assoc}
 use Prim.Native.Nat.{ℕ, suc, ◌+◌, ◌≤◌, ◌<◌}
 use native.Mathlib.Omega.{arith}

@@ -1,11 +1,13 @@
 // The numbers of the saved file: groups of seven bits, lowest first, the shortest form only, at most 4,294,967,295.
+#![tactic(auto)]
+
 ghost use Rattle.std.specs.Prelude.{◌≡◌, ◌+◌, ◌≤◌, ◌<◌, min, length};
 ghost use Rattle.theory.specs.Files.{number_bytes, number_limit};
 ghost use Rattle.numbers.specs.Splices.{WrittenAt};
 ghost use Rattle.numbers.specs.Reads.{is_needless, last_read, ReadAt};
 
 // What stands at a place of a file: a number and where it ends, or none.
-#[derive(Drop)]
+#[derive(Clone, Copy)]
 pub enum NumberRead {
     Number { value: u64, next: usize },
     Bad,
