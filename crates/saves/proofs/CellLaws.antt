@@ -9,7 +9,6 @@ use mathlib.Core.Bool.{not}
 use mathlib.Core.Option.{none}
 use mathlib.Core.List.{List, [], ◌∷◌, ◌++◌, map}
 use Prim.Native.Nat.{ℕ, zero, suc, ◌+◌, ◌*◌, ◌≤◌, ◌<◌}
-use native.Mathlib.Nat.{mul-le-mul_left}
 use native.Mathlib.Numerals.{add-one}
 use native.Mathlib.Omega.{arith}
 use lib.ListN.{length, get_or, take, drop, length-append, drop_of_length-le}
@@ -17,7 +16,7 @@ use borrow.Author.Tests.{eq-eqb, ne_eqb, not-false}
 use Rattle.theory.specs.Files.{number_limit, number_bytes, numbers_bytes, cell_number, table_file}
 use Rattle.theory.specs.Refusals.{is_alphabet, refused_if}
 use Rattle.theory.specs.Tables.{absent}
-use Rattle.theory.specs.TableRefusals.{is_lent, check_refusal, cell_refusal}
+use Rattle.theory.specs.TableRefusals.{is_lent, check_refusal}
 use Rattle.theory.proofs.RefusalLaws.{alphabet_in}
 use Rattle.theory.proofs.TableRefusalLaws.{else_none, unrefused, lent_in}
 use Rattle.numbers.specs.Splices.{WrittenAt}

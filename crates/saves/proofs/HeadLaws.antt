@@ -1,7 +1,7 @@
 -- The head of a file, written: the kind, n and a count, one behind the other.
 --   first_room, second_room, third_room : each has its place; head_written : and then the head stands there
 -- Assumes nothing.
-use mathlib.Core.Path.{◌≡◌, refl}
+use mathlib.Core.Path.{refl}
 use mathlib.Core.List.{List, [], ◌∷◌}
 use Prim.Native.Nat.{ℕ, ◌+◌, ◌≤◌}
 use lib.ListN.{length}

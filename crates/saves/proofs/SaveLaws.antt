@@ -9,7 +9,7 @@ use mathlib.Core.Option.{Option, none, some}
 use mathlib.Core.List.{List, ◌++◌}
 use Prim.Native.Nat.{ℕ, ◌+◌, ◌≤◌, ◌<◌}
 use native.Mathlib.Omega.{arith}
-use lib.ListN.{length, take, drop}
+use lib.ListN.{length, drop}
 use borrow.Author.Tests.{lt-ltb, le-ltb}
 use Rattle.theory.specs.Files.{table_file, list_file}
 use Rattle.theory.specs.Letters.{words_of}
@@ -25,7 +25,6 @@ use Rattle.tables.specs.declared.Checked.TheVariants.{Refused as CheckRefused, C
 use Rattle.tables.specs.declared.Figures.{Figures}
 use Rattle.tables.specs.Checks.{checked_for, checked_as}
 use Rattle.numbers.specs.Splices.{spliced, WrittenAt}
-use Rattle.saves.specs.declared.Saved.{Saved}
 use Rattle.saves.specs.declared.Saved.TheVariants.{Refused, Written}
 use Rattle.saves.specs.Saves.{short_refusal, saved_for, out_for, SaveOutcome, save_table_refusal, SaveTableOutcome, save_list_refusal, SaveListOutcome}
 

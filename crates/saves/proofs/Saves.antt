@@ -12,7 +12,7 @@ use native.Mathlib.Omega.{arith}
 use lib.ListN.{length, get_or, take, drop}
 use lib.Seq.{length-take-le}
 use borrow.Author.Tests.{eq-eqb, ne_eqb}
-use Rattle.theory.specs.Files.{number_limit, groups, number_bytes, numbers_bytes, cell_number, table_file}
+use Rattle.theory.specs.Files.{groups, number_bytes, numbers_bytes, cell_number, table_file}
 use Rattle.theory.specs.Tables.{absent}
 use Rattle.theory.specs.TableRefusals.{check_refusal}
 use Rattle.numbers.proofs.Numbers.{number_one, AllFit, numbers_one}

@@ -1,4 +1,6 @@
 // Saving: a canonical table as a file of kind 1, a list as a file of kind 2.
+#![tactic(auto)]
+
 ghost use Rattle.std.specs.Prelude.{◌≡◌, true, [], ◌∷◌, ◌+◌, ◌≤◌, length};
 ghost use Rattle.std.proofs.Math.Option.{none};
 ghost use Rattle.theory.specs.Files.{cell_number, numbers_bytes, number_limit, table_file, word_numbers, list_file};
@@ -14,7 +16,7 @@ use refusals::Refusal;
 use tables::{Checked, Subgroup};
 
 // What saving says: a refusal, or how many bytes are written.
-#[derive(Drop)]
+#[derive(Clone, Copy)]
 pub enum Saved {
     Refused(Refusal),
     Written(u64),
