@@ -5,18 +5,15 @@
 use mathlib.Core.Path.{◌≡◌, refl, sym, ◌∙◌, ap, subst}
 use mathlib.Core.Bool.{cond}
 use mathlib.Core.Option.{Option, none, some}
-use mathlib.Core.List.{List, [], ◌∷◌}
-use Prim.Native.Nat.{ℕ, zero, suc, ◌+◌, ◌-◌, ◌*◌, ◌≤◌, ◌<◌}
+use mathlib.Core.List.{List}
+use Prim.Native.Nat.{ℕ, zero, suc, ◌-◌, ◌≤◌, ◌<◌}
 use native.Mathlib.Omega.{arith}
-use lib.Dec.{ltb}
 use lib.ListN.{length}
 use borrow.Author.Tests.{lt-ltb, le-ltb}
-use Rattle.theory.specs.Refusals.{Refusal as FirstCause}
 use Rattle.numbers.specs.declared.NumberRead.{NumberRead}
 use Rattle.numbers.specs.declared.NumberRead.TheVariants.{Number, Bad}
 use Rattle.numbers.specs.Reads.{ReadAt}
 use Rattle.refusals.specs.Given.{given_as}
-use Rattle.runs.specs.declared.Skipped.{Skipped}
 use Rattle.runs.specs.declared.Skipped.TheVariants.{Refused, Behind}
 use Rattle.runs.specs.Runs.{Run, broken, whole, broken_at, on_run, run_on, number_at, behind, numbers_at, skipped_as}
 use Rattle.runs.proofs.Standing.{standing_complete, none_standing, behind_inside}

@@ -1,4 +1,6 @@
 // Runs of numbers in a file: read through before anything is written.
+#![tactic(auto)]
+
 ghost use Rattle.std.specs.Prelude.{◌≡◌, ◌≤◌, length};
 ghost use Rattle.runs.specs.Runs.{numbers_at, skipped_as};
 
@@ -6,7 +8,7 @@ use numbers::NumberRead;
 use refusals::Refusal;
 
 // What reading through a run says: a refusal, or the place behind it.
-#[derive(Drop)]
+#[derive(Clone, Copy)]
 pub enum Skipped {
     Refused(Refusal),
     Behind(usize),
