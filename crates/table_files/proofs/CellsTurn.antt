@@ -5,23 +5,22 @@
 use mathlib.Core.Path.{◌≡◌, refl, sym, ◌∙◌, ap, subst}
 use mathlib.Core.Bool.{Bool, true, false, cond}
 use mathlib.Core.Option.{Option, none, some}
-use mathlib.Core.List.{List, [], ◌∷◌, ◌++◌, map, append_assoc, append-nil}
-use Prim.Native.Nat.{ℕ, zero, suc, ◌+◌, ◌-◌, ◌*◌, ◌≤◌, ◌<◌}
+use mathlib.Core.List.{List, [], ◌∷◌, ◌++◌, append_assoc, append-nil}
+use Prim.Native.Nat.{ℕ, zero, suc, ◌+◌, ◌-◌, ◌≤◌, ◌<◌}
 use native.Mathlib.Numerals.{add-one}
 use native.Mathlib.Omega.{arith}
 use lib.Dec.{ltb}
 use borrow.Author.Tests.{eq-eqb, ne_eqb}
 use lib.ListN.{length, take, drop, set, length-set, take-append-drop}
 use lib.Seq.{take-suc-set, drop-set-lt, drop-drop}
-use Rattle.theory.specs.Files.{number_limit, NumberAt}
-use Rattle.theory.specs.Refusals.{Refusal as FirstCause}
+use Rattle.theory.specs.Files.{number_limit}
 use Rattle.numbers.specs.declared.NumberRead.{NumberRead}
 use Rattle.numbers.specs.declared.NumberRead.TheVariants.{Number, Bad}
 use Rattle.numbers.specs.Reads.{ReadAt}
 use Rattle.runs.specs.Runs.{Run, broken, whole, on_run, run_on, number_at, behind, numbers_at}
 use Rattle.runs.proofs.Standing.{standing_sound, standing_complete, behind_inside}
 use Rattle.table_files.specs.TableFiles.{number_cell}
-use Rattle.table_files.specs.Parts.{Whole, values_of, cells_of, run_of}
+use Rattle.table_files.specs.Parts.{Whole, cells_of, run_of}
 
 -- the numbers before are `done`, those behind `todo`
 pub record Head (file : List ℕ) (at count : ℕ) (table : List ℕ) (p i : ℕ) (cells : List ℕ) : Type 0 where

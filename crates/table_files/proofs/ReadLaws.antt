@@ -6,18 +6,17 @@
 use mathlib.Core.Path.{◌≡◌, refl, sym, ◌∙◌, ap, subst, fun_ext}
 use mathlib.Core.Bool.{Bool, true, false, cond, true≢false}
 use mathlib.Core.Option.{Option, none, some}
-use mathlib.Core.List.{List, [], ◌∷◌, ◌++◌, map}
-use Prim.Native.Nat.{ℕ, zero, suc, ◌+◌, ◌-◌, ◌*◌, ◌≤◌, ◌<◌}
-use native.Mathlib.Omega.{arith}
+use mathlib.Core.List.{List, ◌++◌}
+use Prim.Native.Nat.{ℕ, zero, suc, ◌+◌, ◌*◌, ◌≤◌, ◌<◌}
 use lib.Dec.{ltb}
-use lib.ListN.{length, take, drop, replicate, length-append, length-map, length-drop}
+use lib.ListN.{length, take, drop, replicate, length-map}
 use lib.Seq.{drop-append_seam, take-append_seam, take-length}
 use borrow.Author.Tests.{lt-ltb, le-ltb}
 use Rattle.theory.specs.Letters.{usual}
 use Rattle.theory.specs.Files.{number_limit}
 use Rattle.theory.specs.Tables.{absent, cell}
 use Rattle.theory.specs.Canonical.{faulty_cell}
-use Rattle.theory.specs.Refusals.{Refusal as FirstCause, is_alphabet}
+use Rattle.theory.specs.Refusals.{Refusal as FirstCause}
 use Rattle.theory.specs.TableRefusals.{is_lent, at_cell, cell_refusal}
 use Rattle.theory.proofs.OneTable.{cells_of_rows}
 use Rattle.cells.specs.Filled.{filled}
@@ -36,7 +35,7 @@ use Rattle.runs.specs.declared.Skipped.{Skipped}
 use Rattle.runs.specs.declared.Skipped.TheVariants.{Refused as Stop, Behind}
 use Rattle.table_files.specs.declared.TableRead.{TableRead}
 use Rattle.table_files.specs.declared.TableRead.TheVariants.{Refused, Read}
-use Rattle.table_files.specs.TableFiles.{TableIn, refused, faulty, sound, by_fault, cells_in, points_in, table_in, read_for, table_for, TableOutcome}
+use Rattle.table_files.specs.TableFiles.{TableIn, refused, by_fault, cells_in, points_in, table_in, read_for, table_for, TableOutcome}
 use Rattle.table_files.specs.Parts.{Whole, values_of, cells_of, run_of}
 
 -- ── How many cells ──

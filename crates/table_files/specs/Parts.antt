@@ -3,7 +3,7 @@
 --   cells_of run       == the cells of its numbers
 --   run_of file p count == the run of so many numbers of any size, from byte p on
 -- Assumes nothing.
-use Rattle.std.specs.Prelude.{List, [], map, ℕ, ◌+◌, ◌*◌}
+use Rattle.std.specs.Prelude.{List, [], map, ℕ, ◌+◌}
 use Rattle.theory.specs.Files.{number_limit}
 use Rattle.runs.specs.Runs.{Run, broken, whole, numbers_at}
 use Rattle.table_files.specs.TableFiles.{number_cell}

@@ -1,4 +1,6 @@
 // A table in a file of kind 1, behind the kind and n: read through, then written, then walked.
+#![tactic(auto)]
+
 ghost use Rattle.std.specs.Prelude.{◌≡◌, true, ◌++◌, ◌*◌, ◌≤◌, length, drop};
 ghost use Rattle.theory.specs.Files.{number_limit};
 ghost use Rattle.theory.specs.Refusals.{is_alphabet};
@@ -14,7 +16,7 @@ use runs::Skipped;
 use tables::{Subgroup, Walked};
 
 // What reading a table says: a refusal, or its number of points.
-#[derive(Drop)]
+#[derive(Clone, Copy)]
 pub enum TableRead {
     Refused(Refusal),
     Read(u64),
