@@ -6,37 +6,25 @@
 --   head_first, head_room, head_todo, head_turn, head_done
 -- Assumes nothing.
 use mathlib.Core.Path.{◌≡◌, refl, sym, ◌∙◌, ap, subst}
-use mathlib.Core.Option.{Option, none, some}
-use mathlib.Core.List.{List, [], ◌∷◌, ◌++◌, map}
-use Prim.Native.Nat.{ℕ, zero, suc, ◌+◌, ◌-◌, ◌*◌, ◌≤◌, ◌<◌}
+use mathlib.Core.List.{List, [], ◌∷◌, ◌++◌}
+use Prim.Native.Nat.{ℕ, suc, ◌+◌, ◌-◌, ◌*◌, ◌≤◌, ◌<◌}
 use native.Mathlib.Numerals.{add-one}
 use native.Mathlib.Omega.{arith}
 use lib.ListN.{length, drop, set, length-set, length-append}
-use Rattle.theory.specs.Letters.{byte_of, line_end}
+use Rattle.theory.specs.Letters.{byte_of}
 use Rattle.theory.specs.Texts.{list_text}
 use Rattle.numbers.specs.declared.NumberRead.{NumberRead}
 use Rattle.numbers.specs.declared.NumberRead.TheVariants.{Number, Bad}
 use Rattle.numbers.specs.Reads.{ReadAt}
 use Rattle.numbers.specs.Splices.{spliced}
 use Rattle.numbers.proofs.SpliceLaws.{spliced_none, spliced_cons, spliced_append, length_spliced}
-use Rattle.runs.specs.Runs.{Run, broken, whole, number_at, behind, numbers_at, Whole, values_of, place_of}
+use Rattle.runs.specs.Runs.{Run, broken, whole, behind, numbers_at, Whole, values_of, place_of}
 use Rattle.runs.proofs.Standing.{none_standing, standing_complete}
 use Rattle.runs.proofs.RunLaws.{no_run, Split, split, run_sized}
 use Rattle.list_files.specs.declared.Places.{Places}
-use Rattle.list_files.specs.ListFiles.{Words, stopped, read, letters_on, words_at}
+use Rattle.list_files.specs.ListFiles.{Words, stopped, read, words_at}
 use Rattle.list_files.specs.Parts.{AllRead, words_of, place_behind, line_of, PutAt}
-use Rattle.list_files.proofs.WordLaws.{
-  text_append,
-  text_line,
-  line_length,
-  word_none,
-  onto,
-  glue,
-  words_next,
-  words_end,
-  Passing,
-  word_sized,
-}
+use Rattle.list_files.proofs.WordLaws.{text_append, text_line, line_length, word_none, onto, glue, words_next, words_end, word_sized}
 use Rattle.list_files.proofs.SkipTurn.{here, word_inside, word_is}
 
 -- ── Letters ──

@@ -4,9 +4,8 @@
 -- Assumes nothing.
 use mathlib.Core.Path.{◌≡◌, refl, sym, ◌∙◌, ap, subst}
 use mathlib.Core.Bool.{cond, true≢false}
-use mathlib.Core.Option.{Option, none, some}
-use mathlib.Core.List.{List, [], ◌∷◌, ◌++◌}
-use Prim.Native.Nat.{ℕ, zero, suc, ◌+◌, ◌-◌, ◌*◌, ◌≤◌, ◌<◌}
+use mathlib.Core.List.{List, ◌++◌}
+use Prim.Native.Nat.{ℕ, ◌≤◌, ◌<◌}
 use native.Mathlib.Omega.{arith}
 use lib.Dec.{ltb}
 use lib.ListN.{length, drop}
@@ -18,7 +17,6 @@ use Rattle.refusals.specs.Given.{given, given_as}
 use Rattle.numbers.specs.declared.NumberRead.{NumberRead}
 use Rattle.numbers.specs.declared.NumberRead.TheVariants.{Number, Bad}
 use Rattle.numbers.specs.Reads.{ReadAt}
-use Rattle.runs.specs.Runs.{number_at, behind}
 use Rattle.runs.proofs.Standing.{none_standing, standing_complete}
 use Rattle.list_files.specs.declared.Passed.{Passed}
 use Rattle.list_files.specs.declared.Passed.TheVariants.{Refused as Stop, Behind}
@@ -40,7 +38,7 @@ use Rattle.list_files.specs.ListFiles.{
   ListOutcome,
 }
 use Rattle.list_files.specs.Parts.{passed_as, AllRead, words_of}
-use Rattle.list_files.proofs.WordLaws.{Passing, words_sized}
+use Rattle.list_files.proofs.WordLaws.{words_sized}
 use Rattle.list_files.proofs.SkipTurn.{here}
 
 -- ── Words ──

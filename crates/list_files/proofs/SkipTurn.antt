@@ -6,20 +6,18 @@
 -- Assumes nothing.
 use mathlib.Core.Path.{◌≡◌, refl, sym, ◌∙◌, ap, subst}
 use mathlib.Core.Bool.{true≢false}
-use mathlib.Core.Option.{Option, none, some}
-use mathlib.Core.List.{List, [], ◌∷◌, ◌++◌}
-use Prim.Native.Nat.{ℕ, zero, suc, ◌+◌, ◌-◌, ◌*◌, ◌≤◌, ◌<◌}
+use mathlib.Core.List.{List, []}
+use Prim.Native.Nat.{ℕ, suc, ◌+◌, ◌-◌, ◌*◌, ◌≤◌, ◌<◌}
 use native.Mathlib.Omega.{arith}
 use lib.ListN.{length, length-append}
 use Rattle.theory.specs.Texts.{list_text}
-use Rattle.theory.specs.Refusals.{Refusal as FirstCause}
 use Rattle.theory.specs.Files.{number_limit}
 use Rattle.refusals.specs.declared.Refusal.{Refusal}
 use Rattle.refusals.specs.Given.{given, given_as}
 use Rattle.numbers.specs.declared.NumberRead.{NumberRead}
 use Rattle.numbers.specs.declared.NumberRead.TheVariants.{Number, Bad}
 use Rattle.numbers.specs.Reads.{ReadAt}
-use Rattle.runs.specs.Runs.{Run, broken, whole, number_at, behind, numbers_at, skipped_as, Whole}
+use Rattle.runs.specs.Runs.{Run, broken, whole, behind, numbers_at, skipped_as, Whole}
 use Rattle.runs.specs.declared.Skipped.{Skipped}
 use Rattle.runs.specs.declared.Skipped.TheVariants.{Refused as Stop, Behind as End}
 use Rattle.runs.proofs.Standing.{none_standing, standing_complete, behind_inside}
@@ -27,7 +25,7 @@ use Rattle.runs.proofs.RunLaws.{Sized, run_sized}
 use Rattle.list_files.specs.declared.Passed.{Passed}
 use Rattle.list_files.specs.declared.Passed.TheVariants.{Refused, Behind}
 use Rattle.list_files.specs.ListFiles.{Words, stopped, read, letters_on, words_at}
-use Rattle.list_files.specs.Parts.{passed_as, AllRead, words_of, place_behind}
+use Rattle.list_files.specs.Parts.{passed_as, AllRead}
 use Rattle.list_files.proofs.WordLaws.{text_append, text_line, line_length, word_none, word_letters, onto, glue, words_next, words_end, Passing, word_sized}
 
 -- ── One word ──

@@ -1,5 +1,5 @@
 -- Words in a file (`specs/ListFiles`), one after the other.
---   word-first, word_letters : one word is its length and its letters
+--   word_first, word_letters : one word is its length and its letters
 --   glue, words_next         : some words are the first, and those behind it
 --   text_append, text_line   : the text of words, and of one
 --   Passing, words_sized     : words that were read are as many as asked for; their text is no longer than they are, and they lie in the file
@@ -7,12 +7,12 @@
 use mathlib.Core.Path.{◌≡◌, refl, sym, ◌∙◌, ap, subst}
 use mathlib.Core.Option.{Option, none, some}
 use mathlib.Core.List.{List, [], ◌∷◌, ◌++◌, map, append_assoc}
-use Prim.Native.Nat.{ℕ, zero, suc, ◌+◌, ◌-◌, ◌*◌, ◌≤◌, ◌<◌}
+use Prim.Native.Nat.{ℕ, zero, suc, ◌+◌, ◌*◌, ◌≤◌, ◌<◌}
 use native.Mathlib.Omega.{arith}
 use lib.ListN.{length, length-append, length-map}
 use Rattle.theory.specs.Letters.{byte_of, line_end}
 use Rattle.theory.specs.Texts.{list_text}
-use Rattle.runs.specs.Runs.{Run, broken, whole, number_at, behind, numbers_at, Whole, values_of, place_of}
+use Rattle.runs.specs.Runs.{Run, broken, whole, number_at, behind, numbers_at, Whole}
 use Rattle.runs.proofs.Standing.{standing_sound, behind_inside}
 use Rattle.runs.proofs.RunLaws.{Sized, run_sized}
 use Rattle.list_files.specs.ListFiles.{Words, stopped, read, on_words, letters_on, word_on, words_at}

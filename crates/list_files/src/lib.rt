@@ -1,4 +1,6 @@
 // A list in a file of kind 2, behind the kind and n: read through, then written as a text.
+#![tactic(auto)]
+
 ghost use Rattle.std.specs.Prelude.{◌≡◌, true, ◌++◌, ◌+◌, ◌*◌, ◌≤◌, length, drop};
 ghost use Rattle.theory.specs.Texts.{list_text};
 ghost use Rattle.theory.specs.Refusals.{is_alphabet};
@@ -11,21 +13,21 @@ use refusals::Refusal;
 use runs::Skipped;
 
 // What reading a list says: a refusal, or how many words and bytes its text has.
-#[derive(Drop)]
+#[derive(Clone, Copy)]
 pub enum ListRead {
     Refused(Refusal),
     Read { words: u64, bytes: u64 },
 }
 
 // What reading through words says: a refusal, or the place behind them and how many bytes their text has.
-#[derive(Drop)]
+#[derive(Clone, Copy)]
 enum Passed {
     Refused(Refusal),
     Behind { place: usize, bytes: usize },
 }
 
 // Where reading goes on in the file, and writing in the text.
-#[derive(Drop)]
+#[derive(Clone, Copy)]
 struct Places {
     from: usize,
     to: usize,
