@@ -5,11 +5,11 @@
 --   run_tail, word_tail, word_between, word_listed : events and lists of numbers
 -- Assumes nothing.
 use mathlib.Core.Path.{◌≡◌, refl, sym, ◌∙◌, ap, subst}
-use mathlib.Core.Logic.{◌⊎◌, inl, inr, ⊎_elim}
+use mathlib.Core.Logic.{◌⊎◌, inl, inr}
 use mathlib.Core.Bool.{Bool, true, false, cond}
 use mathlib.Core.Option.{Option, none, some}
 use mathlib.Core.List.{List, [], ◌∷◌, ◌++◌, append_assoc}
-use Prim.Native.Nat.{ℕ, zero, suc, ◌+◌, ◌*◌, ◌≤◌, ◌<◌}
+use Prim.Native.Nat.{ℕ, zero, suc, ◌*◌, ◌≤◌, ◌<◌}
 use native.Mathlib.Omega.{arith}
 use lib.Dec.{ltb}
 use lib.ListN.{length}
@@ -17,7 +17,7 @@ use borrow.Author.Tests.{ltb-true, ltb-false}
 use Rattle.theory.specs.Files.{word_numbers}
 use Rattle.runs.specs.Runs.{Run, broken, whole, broken_at, on_run, run_on, number_at, behind, numbers_at}
 use Rattle.list_files.specs.ListFiles.{Words, stopped, read, on_words, letters_on, word_on, words_at}
-use Rattle.loads.specs.Causes.{InWord, BetweenWords, Unfinished}
+use Rattle.loads.specs.Causes.{InWord, Unfinished}
 use Rattle.loads.proofs.StandLaws.{
   Stand,
   end_from,

@@ -5,10 +5,10 @@
 --   least_first, least_one : that is `FirstInFile`, and nothing else is
 -- Assumes nothing.
 use mathlib.Core.Path.{◌≡◌, refl, sym, ◌∙◌, ap, subst}
-use mathlib.Core.Logic.{by_cases, ◌⊎◌, inl, inr, ⊎_elim}
-use mathlib.Core.Option.{Option, none, some}
+use mathlib.Core.Logic.{by_cases, inl, inr, ⊎_elim}
+use mathlib.Core.Option.{none, some}
 use mathlib.Core.List.{List, [], ◌∷◌, ◌++◌, map}
-use Prim.Native.Nat.{ℕ, zero, suc, ◌+◌, ◌*◌, ◌≤◌, ◌<◌}
+use Prim.Native.Nat.{ℕ, zero, suc, ◌*◌, ◌≤◌, ◌<◌}
 use native.Mathlib.Decide.{ℕ_discrete, dec_lt}
 use native.Mathlib.Omega.{arith}
 use lib.ListN.{length}
@@ -18,31 +18,7 @@ use Rattle.theory.specs.TableRefusals.{Cause8}
 use Rattle.theory.specs.Texts.{list_text}
 use Rattle.runs.specs.Runs.{number_at, behind}
 use Rattle.table_files.specs.TableFiles.{number_cell}
-use Rattle.loads.specs.Causes.{
-  Starts,
-  end_of,
-  Missing,
-  InWord,
-  BetweenWords,
-  Unfinished,
-  FileCause,
-  kind_missing,
-  kind_other,
-  n_missing,
-  n_beyond,
-  count_missing,
-  points_wrong,
-  cell_missing,
-  number_missing,
-  letter_beyond,
-  cells_end,
-  words_end,
-  cell_faulty,
-  text_long,
-  text_narrow,
-  Sooner,
-  FirstInFile,
-}
+use Rattle.loads.specs.Causes.{end_of, InWord, Unfinished, FileCause, kind_missing, kind_other, n_missing, n_beyond, count_missing, points_wrong, cell_missing, number_missing, letter_beyond, cells_end, words_end, cell_faulty, text_long, text_narrow, FirstInFile}
 use Rattle.loads.proofs.StandLaws.{Stand, end_from, stand_of_starts, end_is, missing_told, stand_front, stand_back}
 use Rattle.loads.proofs.Events.{Upon, WordEvent, word_between, word_tail}
 

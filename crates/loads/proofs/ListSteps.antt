@@ -5,19 +5,18 @@
 --   space_short, space_enough  : the lent text
 -- Assumes nothing.
 use mathlib.Core.Path.{◌≡◌, refl, sym, ◌∙◌, ap, subst}
-use mathlib.Core.Logic.{by_cases, ◌⊎◌, inl, inr, ⊎_elim}
-use mathlib.Core.Option.{Option, none, some}
-use mathlib.Core.List.{List, [], ◌∷◌, ◌++◌, map}
-use Prim.Native.Nat.{ℕ, zero, suc, ◌+◌, ◌*◌, ◌≤◌, ◌<◌}
-use native.Mathlib.Decide.{ℕ_discrete, dec_lt}
+use mathlib.Core.Logic.{inr}
+use mathlib.Core.Option.{some}
+use mathlib.Core.List.{List, [], ◌∷◌, ◌++◌}
+use Prim.Native.Nat.{ℕ, ◌≤◌, ◌<◌}
 use native.Mathlib.Omega.{arith}
 use lib.ListN.{length}
-use Rattle.theory.specs.Files.{word_numbers, Cause12}
-use Rattle.theory.specs.Refusals.{Refusal as FirstCause, text_limit, Cause2, CauseShort}
+use Rattle.theory.specs.Files.{word_numbers}
+use Rattle.theory.specs.Refusals.{Refusal as FirstCause, text_limit}
 use Rattle.theory.specs.Texts.{list_text}
-use Rattle.runs.specs.Runs.{number_at, behind}
-use Rattle.list_files.specs.ListFiles.{Words, stopped, read}
-use Rattle.loads.specs.Causes.{end_of, FileCause, number_missing, letter_beyond, words_end, text_long, text_narrow}
+use Rattle.runs.specs.Runs.{number_at}
+use Rattle.list_files.specs.ListFiles.{stopped, read}
+use Rattle.loads.specs.Causes.{FileCause, number_missing, letter_beyond, words_end, text_long, text_narrow}
 use Rattle.loads.proofs.StandLaws.{Stand, end_from, starts_of_stand, end_is, missing_of, stand_join}
 use Rattle.loads.proofs.Events.{Upon, WordEvent, WordsVerdict, Listed, missing, beyond, word_listed}
 use Rattle.loads.proofs.FirstCauses.{

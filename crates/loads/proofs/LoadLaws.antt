@@ -7,17 +7,16 @@
 -- Assumes nothing.
 use mathlib.Core.Path.{◌≡◌, refl, sym, ◌∙◌, ap, subst}
 use mathlib.Core.Bool.{Bool, true, false, cond, not, ◌||◌, true≢false}
-use mathlib.Core.Option.{Option, none, some}
+use mathlib.Core.Option.{some}
 use mathlib.Core.List.{List}
 use Prim.Native.Nat.{ℕ, ◌≤◌, ◌<◌}
 use lib.Dec.{eqb, leb}
 use lib.ListN.{length}
 use borrow.Author.Tests.{eq-eqb, ne_eqb, le-leb, not-false, not-true}
-use Rattle.theory.specs.Refusals.{Refusal as FirstCause, is_alphabet}
+use Rattle.theory.specs.Refusals.{is_alphabet}
 use Rattle.theory.proofs.RefusalLaws.{below_alphabet}
-use Rattle.theory.specs.Texts.{list_text}
 use Rattle.refusals.specs.declared.Refusal.{Refusal}
-use Rattle.refusals.specs.Given.{given, given_as}
+use Rattle.refusals.specs.Given.{given_as}
 use Rattle.numbers.specs.declared.NumberRead.{NumberRead}
 use Rattle.numbers.specs.declared.NumberRead.TheVariants.{Number, Bad}
 use Rattle.numbers.specs.Reads.{ReadAt}
@@ -30,7 +29,6 @@ use Rattle.list_files.specs.declared.ListRead.{ListRead}
 use Rattle.list_files.specs.declared.ListRead.TheVariants.{Refused as ListRefused, Read as ListThere}
 use Rattle.list_files.specs.ListFiles.{ListIn, refused as unlisted, listed, list_in, read_for as listReadFor, text_for}
 use Rattle.loads.specs.declared.Loaded.{Loaded}
-use Rattle.loads.specs.declared.Found.{Found}
 use Rattle.loads.specs.declared.Found.TheVariants.{Refused, Table, List as ListMet}
 use Rattle.loads.specs.Loads.{FileIn, unread, table_met, list_met, by_kind, after_n, after_kind, file_in, answer_with, loaded_for, FileOutcome, LoadOutcome}
 

@@ -29,7 +29,7 @@ use Rattle.theory.specs.Texts.{bytes_from, bytes, list_text}
 use Rattle.runs.specs.Runs.{value_of, begins, is_written, number_in, number_at, behind, numbers_at}
 use Rattle.table_files.specs.TableFiles.{number_cell, sound, table_in}
 use Rattle.list_files.specs.ListFiles.{listed, words_at, list_in}
-use Rattle.loads.specs.Loads.{FileIn, table_met, list_met, file_in}
+use Rattle.loads.specs.Loads.{table_met, list_met, file_in}
 
 -- the file of abA
 abbrev pub table_file_here : List ℕ

@@ -3,21 +3,19 @@
 --   load_refusal_none  : the answer is no refusal exactly if no cause applies
 -- Assumes nothing.
 use mathlib.Core.Path.{◌≡◌, refl, sym, ◌∙◌, ap, subst}
-use mathlib.Core.Logic.{by_cases, ◌⊎◌, inl, inr, ⊎_elim, ◌↔◌}
+use mathlib.Core.Logic.{◌⊎◌, inl, inr, ⊎_elim, ◌↔◌}
 use mathlib.Core.Bool.{Bool, true, false, cond, ◌||◌, true≢false}
 use mathlib.Core.Option.{Option, none, some, none-ne-some}
-use mathlib.Core.List.{List, [], ◌∷◌, map}
-use Prim.Native.Nat.{ℕ, ◌+◌, ◌*◌, ◌≤◌, ◌<◌}
-use native.Mathlib.Decide.{ℕ_discrete}
+use mathlib.Core.List.{List, map}
+use Prim.Native.Nat.{ℕ, ◌+◌, ◌*◌}
 use native.Mathlib.Omega.{arith}
 use lib.Dec.{eqb, ltb}
 use lib.ListN.{length}
-use borrow.Author.Tests.{eq-eqb, ne_eqb, eqb-true, eqb-false, ltb-true, ltb-false}
+use borrow.Author.Tests.{eqb-true, eqb-false, ltb-true, ltb-false}
 use Rattle.theory.specs.Files.{number_limit}
 use Rattle.theory.specs.Refusals.{Refusal as FirstCause, is_alphabet, text_limit}
 use Rattle.theory.specs.TableRefusals.{is_lent, cell_refusal}
 use Rattle.theory.specs.Texts.{list_text}
-use Rattle.theory.proofs.RefusalLaws.{some_number}
 use Rattle.theory.proofs.TableRefusalLaws.{lent_in}
 use Rattle.refusals.specs.declared.Refusal.{Refusal}
 use Rattle.refusals.specs.Given.{given, given_as}
@@ -25,9 +23,8 @@ use Rattle.runs.specs.Runs.{Run, broken, whole, number_at, behind, numbers_at}
 use Rattle.table_files.specs.TableFiles.{TableIn, refused, faulty, sound, number_cell, by_fault, cells_in, points_in, table_in}
 use Rattle.list_files.specs.ListFiles.{Words, stopped, read, words_at, ListIn, refused as unlisted, listed, words_in, count_in, list_in}
 use Rattle.loads.specs.declared.Loaded.{Loaded}
-use Rattle.loads.specs.declared.Found.{Found}
 use Rattle.loads.specs.declared.Found.TheVariants.{Refused, Table, List as ListMet}
-use Rattle.loads.specs.Loads.{FileIn, unread, table_met, list_met, by_kind, after_n, after_kind, file_in, loaded_for, FileOutcome, LoadOutcome}
+use Rattle.loads.specs.Loads.{FileIn, unread, table_met, list_met, by_kind, after_n, after_kind, file_in, loaded_for, LoadOutcome}
 use Rattle.loads.specs.Causes.{FileCause, FirstInFile}
 use Rattle.loads.proofs.Events.{RunVerdict, run_verdict, WordsVerdict, words_verdict}
 use Rattle.loads.proofs.FirstCauses.{clear_all, Least, least_first, least_one}

@@ -3,18 +3,17 @@
 --   table_left : a table that is loaded is not left as it was
 --   text_left  : nor is the text of a list
 -- Assumes nothing.
-use mathlib.Core.Path.{◌≡◌, refl, sym, ◌∙◌, ap}
-use mathlib.Core.List.{List, [], ◌∷◌}
+use mathlib.Core.Path.{◌≡◌, sym, ◌∙◌, ap}
+use mathlib.Core.List.{List, []}
 use Prim.Native.Nat.{ℕ}
 use native.Mathlib.Omega.{arith}
 use lib.ListN.{get_or, replicate}
-use Rattle.theory.specs.Texts.{bytes_from, bytes, list_text}
+use Rattle.theory.specs.Texts.{bytes_from, list_text}
 use Rattle.refusals.specs.declared.Refusal.{Refusal}
 use Rattle.loads.specs.declared.Loaded.{Loaded}
-use Rattle.loads.specs.declared.Found.{Found}
 use Rattle.loads.specs.declared.Found.TheVariants.{Refused, Table}
 use Rattle.loads.specs.Loads.{loaded_for, table_after, text_after, LoadOutcome}
-use Rattle.loads.proofs.Loads.{table_file_here, list_file_here, words_here, table_here_lem, list_here, text_here}
+use Rattle.loads.proofs.Loads.{table_file_here, list_file_here, table_here_lem, list_here, text_here}
 
 -- buffers with something in them
 abbrev cells : List ℕ

@@ -7,11 +7,11 @@
 use mathlib.Core.Path.{◌≡◌, refl, sym, ◌∙◌, ap, subst}
 use mathlib.Core.Option.{Option, none, some, some-injective, none-ne-some}
 use mathlib.Core.List.{List, [], ◌∷◌, ◌++◌, append_assoc}
-use Prim.Native.Nat.{ℕ, zero, suc, ◌+◌, ◌≤◌, ◌<◌}
+use Prim.Native.Nat.{ℕ, ◌+◌, ◌≤◌, ◌<◌}
 use native.Mathlib.Omega.{arith}
 use lib.ListN.{length, drop, length-append}
 use lib.Seq.{drop-append_seam, drop-drop}
-use Rattle.theory.specs.Files.{number_limit, number_bytes, numbers_bytes, NumberAt, Cause10}
+use Rattle.theory.specs.Files.{number_bytes, numbers_bytes, Cause10}
 use Rattle.numbers.proofs.NumberLaws.{number_some}
 use Rattle.runs.specs.Runs.{number_at, behind}
 use Rattle.runs.proofs.Standing.{standing_sound, standing_complete, behind_inside}

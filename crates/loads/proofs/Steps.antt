@@ -4,99 +4,23 @@
 --   kind-.., n-.., count-.., points-.. : the steps, in the files' order (`TableSteps` and `ListSteps` have the others)
 -- Assumes nothing.
 use mathlib.Core.Path.{◌≡◌, refl, sym, ◌∙◌, ap, subst}
-use mathlib.Core.Logic.{by_cases, ◌⊎◌, inl, inr, ⊎_elim}
-use mathlib.Core.Bool.{Bool, true, false, cond, not, true≢false}
-use mathlib.Core.Option.{Option, none, some}
-use mathlib.Core.List.{List, [], ◌∷◌, ◌++◌, map}
-use Prim.Native.Nat.{ℕ, zero, suc, ◌+◌, ◌*◌, ◌≤◌, ◌<◌}
-use native.Mathlib.Decide.{ℕ_discrete, dec_lt}
+use mathlib.Core.Logic.{◌⊎◌, inr, ⊎_elim}
+use mathlib.Core.Bool.{true, false, not, true≢false}
+use mathlib.Core.Option.{none, some}
+use mathlib.Core.List.{List, [], ◌∷◌, ◌++◌}
+use Prim.Native.Nat.{ℕ, ◌≤◌}
 use native.Mathlib.Omega.{arith}
 use lib.ListN.{length}
-use Rattle.theory.specs.Files.{number_limit, word_numbers, Cause12}
-use Rattle.theory.specs.Refusals.{Refusal as FirstCause, text_limit, is_alphabet, Cause1, Cause2, Cause6Lent, CauseShort, Only, First, turn, refused_if}
-use Rattle.theory.specs.TableRefusals.{is_lent, Cause8, cell_refusal}
-use Rattle.theory.specs.Tables.{absent}
-use Rattle.theory.specs.Texts.{list_text}
+use Rattle.theory.specs.Files.{word_numbers}
+use Rattle.theory.specs.Refusals.{is_alphabet, Cause6Lent, Only, refused_if}
+use Rattle.theory.specs.TableRefusals.{is_lent}
 use Rattle.theory.proofs.RefusalLaws.{alphabet_in, in_alphabet}
-use Rattle.theory.proofs.TableRefusalLaws.{Verdict, Decides, lent_in, lent_decides, cells_decide}
-use Rattle.runs.specs.Runs.{Run, broken, whole, number_at, behind, numbers_at}
-use Rattle.runs.proofs.Standing.{standing_sound}
-use Rattle.table_files.specs.TableFiles.{number_cell}
-use Rattle.loads.specs.Causes.{
-  Starts,
-  end_of,
-  FileCause,
-  kind_missing,
-  kind_other,
-  n_missing,
-  n_beyond,
-  count_missing,
-  points_wrong,
-  cell_missing,
-  number_missing,
-  letter_beyond,
-  cells_end,
-  words_end,
-  cell_faulty,
-  text_long,
-  text_narrow,
-}
-use Rattle.loads.proofs.StandLaws.{
-  Stand,
-  end_from,
-  same_number,
-  no_number,
-  starts_of_stand,
-  end_is,
-  missing_of,
-  stand_front,
-  stand_back,
-  stand_join,
-  stand_one,
-}
-use Rattle.loads.proofs.Events.{
-  Upon,
-  RunEvent,
-  RunVerdict,
-  run_tail,
-  Ended,
-  run_ended,
-  WordEvent,
-  WordsVerdict,
-  Listed,
-  missing,
-  beyond,
-  word_listed,
-}
-use Rattle.loads.proofs.FirstCauses.{
-  table_run,
-  list_run,
-  AtKind,
-  no_kind,
-  other_kind,
-  AtN,
-  no_n,
-  bad_n,
-  AtCount,
-  no_count,
-  bad_points,
-  AtNumbers,
-  no_cell,
-  in_words,
-  AtEnd,
-  cells_more,
-  words_more,
-  AtFault,
-  bad_cell,
-  long_text,
-  AtSpace,
-  short_text,
-  At,
-  Clear,
-  clear_next,
-  clear_none,
-  Least,
-}
+use Rattle.theory.proofs.TableRefusalLaws.{Verdict, lent_decides}
+use Rattle.runs.specs.Runs.{number_at, behind}
+use Rattle.loads.specs.Causes.{kind_missing, kind_other, n_missing, n_beyond, count_missing, points_wrong}
+use Rattle.loads.proofs.StandLaws.{Stand, end_from, same_number, no_number, starts_of_stand, missing_of, stand_front, stand_back, stand_one}
+use Rattle.loads.proofs.Events.{Upon}
+use Rattle.loads.proofs.FirstCauses.{AtKind, no_kind, other_kind, AtN, no_n, bad_n, AtCount, no_count, bad_points, Clear, clear_next, clear_none, Least}
 
 -- ── Numbers from one place on ──
 

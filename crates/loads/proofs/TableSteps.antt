@@ -5,23 +5,23 @@
 --   table_space               : no text is asked for
 -- Assumes nothing.
 use mathlib.Core.Path.{◌≡◌, refl, sym, ◌∙◌, ap, subst}
-use mathlib.Core.Logic.{by_cases, ◌⊎◌, inl, inr, ⊎_elim}
-use mathlib.Core.Option.{Option, none, some}
-use mathlib.Core.List.{List, [], ◌∷◌, ◌++◌, map}
-use Prim.Native.Nat.{ℕ, zero, suc, ◌+◌, ◌*◌, ◌≤◌, ◌<◌}
-use native.Mathlib.Decide.{ℕ_discrete, dec_lt}
+use mathlib.Core.Logic.{by_cases, inl, inr}
+use mathlib.Core.Option.{none, some}
+use mathlib.Core.List.{List, [], ◌∷◌, map}
+use Prim.Native.Nat.{ℕ, ◌+◌, ◌*◌, ◌≤◌, ◌<◌}
+use native.Mathlib.Decide.{dec_lt}
 use native.Mathlib.Omega.{arith}
 use lib.ListN.{length}
 use Rattle.theory.specs.Files.{number_limit, word_numbers, Cause12}
-use Rattle.theory.specs.Refusals.{Refusal as FirstCause, Only, First, turn, Before}
+use Rattle.theory.specs.Refusals.{Refusal as FirstCause, Only, First, turn}
 use Rattle.theory.specs.TableRefusals.{Cause8, cell_refusal}
 use Rattle.theory.specs.Tables.{absent}
-use Rattle.theory.proofs.TableRefusalLaws.{Verdict, Decides, cells_decide}
-use Rattle.runs.specs.Runs.{Run, broken, whole, number_at, behind, numbers_at}
+use Rattle.theory.proofs.TableRefusalLaws.{Verdict, cells_decide}
+use Rattle.runs.specs.Runs.{broken, whole, number_at}
 use Rattle.runs.proofs.Standing.{standing_sound}
 use Rattle.table_files.specs.TableFiles.{number_cell}
-use Rattle.loads.specs.Causes.{end_of, FileCause, cell_missing, cells_end, cell_faulty}
-use Rattle.loads.proofs.StandLaws.{Stand, end_from, same_number, no_number, starts_of_stand, end_is, missing_of, stand_one}
+use Rattle.loads.specs.Causes.{FileCause, cell_missing, cells_end, cell_faulty}
+use Rattle.loads.proofs.StandLaws.{Stand, end_from, starts_of_stand, end_is, missing_of, stand_one}
 use Rattle.loads.proofs.Events.{Upon, RunEvent, RunVerdict, run_tail, Ended, run_ended, Tail}
 use Rattle.loads.proofs.FirstCauses.{
   table_run,

@@ -9,7 +9,6 @@ use Rattle.std.proofs.Math.Option.{Option, none, some}
 use Rattle.theory.specs.Refusals.{Refusal as FirstCause, is_alphabet}
 use Rattle.theory.specs.Texts.{list_text}
 use Rattle.refusals.specs.Given.{given}
-use Rattle.tables.specs.declared.Subgroup.{Subgroup}
 use Rattle.runs.specs.Runs.{number_at, behind}
 use Rattle.table_files.specs.TableFiles.{TableIn, refused, faulty, sound, table_in, table_for}
 use Rattle.list_files.specs.ListFiles.{ListIn, refused as unlisted, listed, list_in, text_for}

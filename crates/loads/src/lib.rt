@@ -1,4 +1,6 @@
 // Loading: one loader for files of both kinds, which says which it met.
+#![tactic(auto)]
+
 ghost use Rattle.std.specs.Prelude.{◌≡◌, true, ◌||◌, ◌≤◌, eqb, length};
 ghost use Rattle.theory.specs.Refusals.{is_alphabet};
 ghost use Rattle.runs.specs.Runs.{number_at};
@@ -14,7 +16,7 @@ use table_files::TableRead;
 use tables::Subgroup;
 
 // What loading says: a refusal, a table, or a list with how many words and bytes its text has.
-#[derive(Drop)]
+#[derive(Clone, Copy)]
 pub enum Found {
     Refused(Refusal),
     Table,
@@ -22,7 +24,7 @@ pub enum Found {
 }
 
 // That, and beside it the record of a table: n and its points. A list has n and no points, a refusal neither.
-#[derive(Drop)]
+#[derive(Clone, Copy)]
 pub struct Loaded {
     pub subgroup: Subgroup,
     pub found: Found,
