@@ -238,6 +238,6 @@ module _ {H : List ℕ → Type 0} (S : Subgroup H) {ys : List ℕ} (closed : (z
   unfolding chained
   chained_chains s a [] b c = nothing_chains s a b c
   chained_chains s a (y ∷ []) b c = letter_chains s a y b c
-  chained_chains s a (y ∷ (z ∷ w)) b c =
+  chained_chains {label = label} s a (y ∷ (z ∷ w)) b c =
       longer_chains s a y z w b c (chained (joined (grown s) a y s.made) s.made (z ∷ w) b)
-      (chained_chains (joined (grown s) a y s.made) s.made (z ∷ w) b (chain_next s a y z w b c))
+      (chained_chains {label = label₁ s a y z w b c} (joined (grown s) a y s.made) s.made (z ∷ w) b (chain_next s a y z w b c))

@@ -187,7 +187,8 @@ module _ {H : List ℕ → Type 0} (S : Subgroup H) {label : ℕ → List ℕ} {
   pub cleared_kept : {s : State} {v u : ℕ} → Handles H label ys s v u → (l : List ℕ) → Kept H label ys (v ∷ []) s (cleared s v u l)
   unfolding cleared
   cleared_kept h [] = kept_refl h.stage
-  cleared_kept h (y ∷ l) = let k = moved_kept h y in kept_trans k (cleared_kept (moved_handles h k) l)
+  cleared_kept {s = s} {v = v} {u = u} h (y ∷ l) =
+      let k = moved_kept h y in kept_trans k (cleared_kept {s = moved s v u y} (moved_handles h k) l)
 
 -- those cells of the row are empty
 pub cleared_row : (s : State) (v u : ℕ) (l : List ℕ) (z : ℕ) → (u ≡ v → ⊥) → (s.cells v z ≡ absent) ⊎ (z ∈ l)
