@@ -9,7 +9,7 @@
 --                           pending points the cells are as they were
 --   After r f g table work count table' work' k <-> so, where f makes s of the state before, and g makes w of the work cells
 -- The first `rows` work cells are forward, the next `rows` pending. Assumes nothing.
-use Rattle.std.specs.Prelude.{◌≡◌, List, [], ℕ, ◌+◌, ◌*◌, ◌≤◌, ◌<◌, length, drop}
+use Rattle.std.specs.Prelude.{◌≡◌, List, [], ℕ, ◌*◌, ◌≤◌, ◌<◌, length, drop}
 use Rattle.theory.specs.Letters.{usual}
 use Rattle.theory.specs.Tables.{absent, Leads, cell}
 use Rattle.engine.specs.Roots.{Falls}

@@ -1,4 +1,6 @@
 // The engine's leaves on lent cells.
+#![tactic(auto)]
+
 ghost use Rattle.std.specs.Prelude.{◌≡◌, ◌+◌, ◌*◌, ◌<◌, ◌≤◌, length, set};
 ghost use Rattle.engine.specs.Roots.{Falls};
 ghost use Rattle.engine.specs.Work.{forward_of};
@@ -6,7 +8,7 @@ ghost use Rattle.rooms.specs.Finding.{Found};
 ghost use Rattle.rooms.specs.Uniting.{sent, United};
 
 // What the engine knows of lent cells: n generators, `rows` rows of room, `made` points made.
-#[derive(Drop)]
+#[derive(Clone, Copy)]
 pub struct Room {
     pub n: usize,
     pub rows: usize,
