@@ -5,11 +5,11 @@
 --   link_free, link_taken, link_back : the three outcomes of `link`
 --   edge_of, move_usable, move_ends, move_left : the parts of `move_edge`
 -- Assumes nothing.
-use mathlib.Core.Path.{◌≡◌, refl, sym, ◌∙◌, ap, subst}
+use mathlib.Core.Path.{◌≡◌, sym, ◌∙◌, ap, subst}
 use mathlib.Core.Logic.{by_cases}
 use mathlib.Core.Bool.{cond, ◌&&◌}
-use mathlib.Core.List.{List, [], ◌∷◌}
-use Prim.Native.Nat.{ℕ, zero, suc, ◌+◌, ◌*◌, ◌≤◌, ◌<◌}
+use mathlib.Core.List.{List}
+use Prim.Native.Nat.{ℕ, ◌+◌, ◌*◌, ◌≤◌, ◌<◌}
 use native.Mathlib.Decide.{ℕ_discrete}
 use native.Mathlib.Omega.{arith}
 use lib.Dec.{eqb}
@@ -19,7 +19,7 @@ use Rattle.theory.specs.Words.{inv}
 use Rattle.theory.specs.Tables.{absent, Cells, Leads, cell}
 use Rattle.theory.proofs.TableLaws.{row_below, cell_here}
 use Rattle.engine.specs.Cells.{put, linked, unlinked}
-use Rattle.engine.specs.Engine.{State, with_cells, united, joined, moved, far_end}
+use Rattle.engine.specs.Engine.{State, with_cells, joined, moved, far_end}
 use Rattle.engine.specs.Work.{Holds}
 use Rattle.engine.proofs.CellLaws.{unlinked_leads}
 use Rattle.engine.proofs.GrowLaws.{joined_free, joined_taken, joined_back}
@@ -28,7 +28,7 @@ use Rattle.engine.proofs.HoldLaws.{holds_first, holds_set, holds_then, holds_as}
 use Rattle.rooms.specs.declared.Room.{Room}
 use Rattle.rooms.specs.Uniting.{United}
 use Rattle.rooms.specs.WorkCells.{united_work, joined_work, moved_work}
-use Rattle.rooms.specs.Rooms.{state_in, Lent, Usable, After}
+use Rattle.rooms.specs.Rooms.{state_in, Usable, After}
 use Rattle.rooms.proofs.RoomLaws.{left_first, left_cells, left_united, left_as, left_then, left_lent}
 use Rattle.links.specs.Links.{InTable, Edge, Ends}
 

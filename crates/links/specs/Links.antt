@@ -3,7 +3,7 @@
 --   Edge r table v y    <-> so, and it leads to a point of the room
 --   Ends r a y b        <-> a and b are points made, y is a letter
 -- Assumes nothing.
-use Rattle.std.specs.Prelude.{◌≡◌, List, ℕ, ◌*◌, ◌≤◌, ◌<◌, length}
+use Rattle.std.specs.Prelude.{List, ℕ, ◌*◌, ◌≤◌, ◌<◌, length}
 use Rattle.theory.specs.Tables.{cell}
 use Rattle.rooms.specs.declared.Room.{Room}
 

@@ -1,4 +1,6 @@
 // Edges in a lent table: joined, taken away, moved from a point to another.
+#![tactic(auto)]
+
 ghost use Rattle.std.specs.Prelude.{◌≡◌, ◌<◌};
 ghost use Rattle.theory.specs.Tables.{cell};
 ghost use Rattle.engine.specs.Cells.{put, linked, unlinked};
