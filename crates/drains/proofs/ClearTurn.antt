@@ -2,22 +2,21 @@
 -- Assumes nothing.
 use mathlib.Core.Path.{◌≡◌, refl, sym, ◌∙◌, ap, subst}
 use mathlib.Core.List.{List, [], ◌∷◌, ◌++◌}
-use Prim.Native.Nat.{ℕ, zero, suc, ◌+◌, ◌*◌, ◌≤◌, ◌<◌}
+use Prim.Native.Nat.{ℕ, ◌+◌, ◌*◌, ◌≤◌, ◌<◌}
 use native.Mathlib.Numerals.{add-one}
 use native.Mathlib.Omega.{arith}
-use lib.ListN.{length, get_or, take}
+use lib.ListN.{take}
 use lib.Seq.{take-suc, take-length}
 use Rattle.theory.specs.Letters.{usual}
 use Rattle.theory.proofs.TableLaws.{length_usual, get_or_usual}
-use Rattle.theory.proofs.MemLaws.{◌∈◌, here}
+use Rattle.theory.proofs.MemLaws.{here}
 use Rattle.engine.specs.Engine.{State, moved, cleared}
-use Rattle.engine.specs.Stages.{Handles, Roomy}
 use Rattle.engine.proofs.StageLaws.{Kept}
 use Rattle.engine.proofs.MoveLaws.{cleared_kept}
 use Rattle.engine.proofs.DrainLaws.{pending_made, kept_roomy}
 use Rattle.rooms.specs.declared.Room.{Room}
 use Rattle.rooms.specs.WorkCells.{moved_work, cleared_work}
-use Rattle.rooms.specs.Rooms.{state_in, Lent, Usable, Fit, After}
+use Rattle.rooms.specs.Rooms.{state_in, Usable, Fit, After}
 use Rattle.rooms.proofs.RoomLaws.{all_words, left_first, left_as, left_then, fit_left, fit_usable}
 use Rattle.links.specs.Links.{Ends}
 use Rattle.drains.specs.Hands.{InHand}

@@ -3,7 +3,7 @@
 --   Head : some turns have been made, and what is left of them drains the rest
 -- Assumes nothing.
 use mathlib.Core.Path.{◌≡◌, refl, sym, ◌∙◌, ap, subst}
-use mathlib.Core.List.{List, [], ◌∷◌, ◌++◌}
+use mathlib.Core.List.{List, [], ◌∷◌}
 use Prim.Native.Nat.{ℕ, zero, suc, ◌+◌, ◌-◌, ◌*◌, ◌≤◌, ◌<◌}
 use native.Mathlib.Omega.{arith}
 use lib.ListN.{length, get_or, drop}
@@ -11,10 +11,9 @@ use lib.Seq.{get_or-drop}
 use Rattle.theory.specs.Letters.{usual}
 use Rattle.theory.specs.Tables.{cell}
 use Rattle.theory.proofs.MemLaws.{◌∈◌, here}
-use Rattle.engine.specs.Roots.{root_of}
-use Rattle.engine.specs.Engine.{State, state_of, with_pending, cleared, turned_by, turned, turned_times, drained}
-use Rattle.engine.specs.Stages.{Stage, Handles, Roomy, weight}
-use Rattle.engine.specs.Work.{forward_of, pending_of}
+use Rattle.engine.specs.Engine.{State, with_pending, cleared, turned_by, turned, turned_times, drained}
+use Rattle.engine.specs.Stages.{Handles, Roomy, weight}
+use Rattle.engine.specs.Work.{pending_of}
 use Rattle.engine.proofs.WorkLaws.{pending_length}
 use Rattle.engine.proofs.DrainLaws.{
   some_root,
@@ -29,7 +28,7 @@ use Rattle.engine.proofs.DrainLaws.{
 use Rattle.rooms.specs.declared.Room.{Room}
 use Rattle.rooms.specs.Finding.{halved_from, Found}
 use Rattle.rooms.specs.WorkCells.{cleared_work, turned_work_by, turned_work, times_work, drained_work}
-use Rattle.rooms.specs.Rooms.{state_in, Lent, Plain, Fit, Left, After}
+use Rattle.rooms.specs.Rooms.{state_in, Plain, Fit, Left, After}
 use Rattle.rooms.proofs.FindLaws.{kept_found}
 use Rattle.rooms.proofs.UniteLaws.{kept_state, drop_behind}
 use Rattle.rooms.proofs.RoomLaws.{all_words, left_first, left_as, left_then, left_lent, fit_left}

@@ -1,4 +1,6 @@
 // Draining: the edges of merged points move to their roots until nothing is pending.
+#![tactic(auto)]
+
 ghost use Rattle.std.specs.Prelude.{[], ◌<◌};
 ghost use Rattle.theory.specs.Letters.{usual};
 ghost use Rattle.engine.specs.Engine.{cleared, turned, drained};
