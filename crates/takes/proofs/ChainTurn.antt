@@ -5,19 +5,18 @@
 --   Head : what is left of a chain, from the tip on
 -- Assumes nothing.
 use mathlib.Core.Path.{◌≡◌, refl, sym, ◌∙◌, ap, subst, subst₂, fun_ext}
-use mathlib.Core.List.{List, [], ◌∷◌, ◌++◌}
-use Prim.Native.Nat.{ℕ, suc, ◌+◌, ◌-◌, ◌*◌, ◌≤◌, ◌<◌}
+use mathlib.Core.List.{List, [], ◌∷◌}
+use Prim.Native.Nat.{ℕ, suc, ◌+◌, ◌*◌, ◌≤◌, ◌<◌}
 use native.Mathlib.Numerals.{add-one}
 use native.Mathlib.Omega.{arith}
 use lib.ListN.{length, get_or, take, drop, set, length-set, length-drop, drop_of_length-le}
 use lib.Seq.{drop-cons, drop-set-lt, get_or-drop, get_or-take, get_or-set_other, length-take-le}
 use Rattle.theory.specs.Letters.{usual, StandsIn, AllIn}
-use Rattle.theory.specs.Graphs.{new_points}
-use Rattle.theory.specs.Tables.{absent, cell}
+use Rattle.theory.specs.Tables.{cell}
 use Rattle.theory.proofs.TableLaws.{length_usual, get_or_usual}
-use Rattle.engine.specs.Roots.{Falls, root_of}
-use Rattle.engine.specs.Engine.{State, state_of, united, joined, grown, chained}
-use Rattle.engine.specs.Stages.{Stage, Chainable, Roomy, weight}
+use Rattle.engine.specs.Roots.{Falls}
+use Rattle.engine.specs.Engine.{State, state_of, joined, grown, chained}
+use Rattle.engine.specs.Stages.{Chainable, Roomy}
 use Rattle.engine.specs.Work.{forward_of, pending_of}
 use Rattle.engine.proofs.WorkLaws.{forward_grown}
 use Rattle.engine.proofs.StageLaws.{joined_kept}
@@ -26,21 +25,9 @@ use Rattle.engine.proofs.FoldedTable.{usual_closed}
 use Rattle.rooms.specs.declared.Room.{Room}
 use Rattle.rooms.specs.Uniting.{United}
 use Rattle.rooms.specs.WorkCells.{joined_work, grown_work, chained_work}
-use Rattle.rooms.specs.Rooms.{state_in, with_made, Lent, Usable, Fit, Left, After}
-use Rattle.rooms.proofs.RoomLaws.{
-  all_words,
-  plain_stage,
-  left_first,
-  left_as,
-  left_then,
-  left_after,
-  left_lent,
-  left_united,
-  fit_grown,
-  fit_usable,
-}
+use Rattle.rooms.specs.Rooms.{state_in, with_made, Lent, Usable, Left, After}
+use Rattle.rooms.proofs.RoomLaws.{all_words, plain_stage, left_first, left_as, left_then, left_after, left_united, fit_grown, fit_usable}
 use Rattle.links.specs.Links.{Ends}
-use Rattle.takes.specs.declared.Grown.{Grown}
 use Rattle.takes.specs.Chains.{word_in, part, Growing, GrownIn, ChainFits, chained_by, chained_cells, ClosedIn, Chained}
 
 -- ── Parts of a word ──

@@ -2,7 +2,7 @@
 -- Assumes nothing.
 use mathlib.Core.Path.{◌≡◌, refl, sym, ◌∙◌, ap, subst}
 use mathlib.Core.List.{List, [], ◌∷◌, ◌++◌}
-use Prim.Native.Nat.{ℕ, zero, suc, ◌+◌, ◌-◌, ◌*◌, ◌≤◌, ◌<◌}
+use Prim.Native.Nat.{ℕ, suc, ◌+◌, ◌-◌, ◌*◌, ◌≤◌, ◌<◌}
 use native.Mathlib.Numerals.{add-one}
 use native.Mathlib.Omega.{arith}
 use lib.ListN.{length, get_or, take, drop, drop_of_length-le}
@@ -14,7 +14,6 @@ use Rattle.engine.specs.Engine.{Ahead, ahead}
 use Rattle.engine.proofs.TakeLaws.{ahead_on, ahead_stop, behind_on}
 use Rattle.rooms.specs.declared.Room.{Room}
 use Rattle.links.specs.Links.{InTable}
-use Rattle.takes.specs.declared.Stop.{Stop}
 use Rattle.takes.specs.Readings.{Readable, FrontOf, BackOf}
 
 -- the cell of a letter at a point made lies in the room

@@ -1,6 +1,6 @@
 -- One word taken in, on plain values: what the parts of `circle` and `take_in` ask and leave.
 --   work_is     : reducing the word leaves `reduced_in`
---   reads-asks, back_asks, chain_asks, circle_is : the readings, the chain, and what they are in the engine's model
+--   reads_asks, back_asks, chain_asks, circle_is : the readings, the chain, and what they are in the engine's model
 --   drain_asks, taken_is : the drain
 --   taken_points, taken_fit, taken_long, taken_rest : what a caller learns
 -- Assumes nothing.
@@ -13,7 +13,7 @@ use native.Mathlib.Omega.{arith}
 use lib.ListN.{length, get_or, take, drop, replicate, length-append, length-drop, length-take, length-replicate, drop_of_length-le}
 use lib.Seq.{drop-drop, take_all, take-append_seam, drop-append_seam, take-take, length-take-le, get_or-take}
 use borrow.Rule.Slice.PartMut.{put_mid}
-use Rattle.theory.specs.Words.{reduced, Reduced, inverse_of}
+use Rattle.theory.specs.Words.{reduced, inverse_of}
 use Rattle.theory.specs.Letters.{word_length, first_word, AllIn, usual}
 use Rattle.theory.specs.Graphs.{new_points}
 use Rattle.theory.specs.Tables.{Cells, cell}
@@ -24,7 +24,7 @@ use Rattle.words.specs.declared.Reduced.{Reduced as Figures}
 use Rattle.words.specs.Reduction.{reduced_cells, ReducedInto}
 use Rattle.words.proofs.ReduceTurn.{cells_kept}
 use Rattle.engine.specs.Roots.{Falls}
-use Rattle.engine.specs.Engine.{State, state_of, ahead, front, behind, chained, taken_in, drained}
+use Rattle.engine.specs.Engine.{state_of, ahead, front, behind, chained, taken_in, drained}
 use Rattle.engine.specs.Stages.{Chainable, Roomy}
 use Rattle.engine.specs.Work.{forward_of, pending_of}
 use Rattle.engine.proofs.WorkLaws.{forward_in, forward_own}
@@ -35,7 +35,7 @@ use Rattle.engine.proofs.FoldLaws.{all_reduced, parts_read, middle_points}
 use Rattle.engine.proofs.FoldedTable.{usual_closed}
 use Rattle.rooms.specs.declared.Room.{Room}
 use Rattle.rooms.specs.WorkCells.{drained_work, chained_work, taken_work}
-use Rattle.rooms.specs.Rooms.{state_in, with_made, Lent, Plain, Fit, Left, After}
+use Rattle.rooms.specs.Rooms.{state_in, with_made, Plain, Fit, Left, After}
 use Rattle.rooms.proofs.RoomLaws.{all_words, plain_stage, left_as, left_then, fit_grown, fit_usable}
 use Rattle.takes.specs.declared.Stop.{Stop}
 use Rattle.takes.specs.declared.Grown.{Grown}
@@ -44,7 +44,7 @@ use Rattle.takes.specs.declared.Taken.{Taken}
 use Rattle.takes.specs.Readings.{Readable, FrontOf, BackOf}
 use Rattle.takes.specs.Chains.{word_in, part, ChainFits, chained_by, chained_cells, Chained}
 use Rattle.takes.specs.Takes.{reduced_in, circled_cells, Takeable, circled, CircleOf, TakenIn}
-use Rattle.takes.proofs.ChainTurn.{usual_below, word_long}
+use Rattle.takes.proofs.ChainTurn.{usual_below}
 
 -- the letters of a word of n generators
 letters_below : (n : ℕ) (w : List ℕ) → AllIn (usual n) w → (i : ℕ) → i < length w → get_or w i 0 < 2 * n
@@ -66,9 +66,9 @@ module _ {r : Room} {text table work : List ℕ} (h : Takeable r text table work
   behind_r = drop (2 * R) work
 
   -- the middle of the word may be chained
-  word-chainable
+  word_chainable
       : Chainable (λ w. Unit {0}) (λ v. []) (usual r.n) (state_in r table work 0) (front c word).point (inverse_of (behind c word).rest) (behind c word).point
-  word-chainable =
+  word_chainable =
       stage_chainable all_words (usual_closed r.n) h.fit.stage word _ _ _ _ _ (parts_read c word) (reduced_none letters (first_word text))
       (all_reduced (usual r.n) (first_word text) h.letters) tt (omega (arith, h.room, h.fit.lent.fits))
 
@@ -192,10 +192,10 @@ module _ {r : Room} {text table work : List ℕ} (h : Takeable r text table work
       small : length word ≤ word_length text
       small = omega (arith, reduced_shorter (first_word text), length-first_word text)
 
-      pub reads-asks
+      pub reads_asks
           : Readable r table (take size (take (length work₁ - 2 * R) (drop (2 * R) work₁)))
           × (size ≤ length (take (length work₁ - 2 * R) (drop (2 * R) work₁)))
-      reads-asks = (
+      reads_asks = (
         subst (Readable r table) (sym word_read)
             (record {
               most = h.fit.lent.most;
@@ -268,7 +268,7 @@ module _ {r : Room} {text table work : List ℕ} (h : Takeable r text table work
                 chainable =
                     subst (λ s. Chainable (λ w. Unit {0}) (λ v. []) (usual r.n) s f.point (part (word_in r work₁) f.count b.count) b.point) (sym state_same)
                     (subst (λ a. Chainable (λ w. Unit {0}) (λ v. []) (usual r.n) (state_in r table work 0) a (part (word_in r work₁) f.count b.count) b.point) (sym front_word.point)
-                    (subst₂ (λ m d. Chainable (λ w. Unit {0}) (λ v. []) (usual r.n) (state_in r table work 0) (front c word).point m d) (sym middle_is) (sym back_point) word-chainable));
+                    (subst₂ (λ m d. Chainable (λ w. Unit {0}) (λ v. []) (usual r.n) (state_in r table work 0) (front c word).point m d) (sym middle_is) (sym back_point) word_chainable));
               }
 
           pub circle_is : {g : Grown} {table' work' : List ℕ}
@@ -287,7 +287,7 @@ module _ {r : Room} {text table work : List ℕ} (h : Takeable r text table work
   chained_in : Chains (λ w. Unit {0}) (usual r.n) (state_in r table work 0) (front c word).point (inverse_of (behind c word).rest) (behind c word).point
       (circled r text table work)
   unfolding taken_in
-  chained_in = chained_chains all_words (usual_closed r.n) (state_in r table work 0) _ _ _ word-chainable
+  chained_in = chained_chains all_words (usual_closed r.n) (state_in r table work 0) _ _ _ word_chainable
 
   module _ {g : Circled} {table' work' : List ℕ} (k : CircleOf r text table work g table' work') where
     pub drain_asks : Fit (with_made r g.made) [] table' work' g.count

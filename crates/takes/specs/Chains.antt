@@ -5,10 +5,10 @@
 --   ClosedIn                <-> what the last link of a chain leaves
 --   chained_by, chained_cells == the state, and the work cells, once they are chained
 -- Assumes nothing.
-use Rattle.std.specs.Prelude.{◌≡◌, List, [], ℕ, ◌+◌, ◌*◌, ◌≤◌, ◌<◌, length, get_or, take, drop}
+use Rattle.std.specs.Prelude.{◌≡◌, List, [], ℕ, ◌+◌, ◌*◌, ◌≤◌, ◌<◌, get_or, take, drop}
 use Rattle.theory.specs.Letters.{usual}
 use Rattle.theory.specs.Graphs.{new_points}
-use Rattle.engine.specs.Engine.{State, united, joined, grown, chained}
+use Rattle.engine.specs.Engine.{State, joined, grown, chained}
 use Rattle.engine.specs.Stages.{Chainable}
 use Rattle.rooms.specs.declared.Room.{Room}
 use Rattle.rooms.specs.WorkCells.{joined_work, grown_work, chained_work}

@@ -7,7 +7,7 @@
 use Rattle.std.specs.Prelude.{◌≡◌, List, ℕ, ◌*◌, ◌≤◌, ◌<◌, length, get_or, take, drop}
 use Rattle.theory.specs.Words.{inverse_of}
 use Rattle.theory.specs.Tables.{Cells, Leads, cell}
-use Rattle.engine.specs.Engine.{Ahead, ahead}
+use Rattle.engine.specs.Engine.{ahead}
 use Rattle.rooms.specs.declared.Room.{Room}
 use Rattle.takes.specs.declared.Stop.{Stop}
 

@@ -1,4 +1,6 @@
 // Taking one word in: it is reduced, read from the base as far as cells exist, and its middle is chained.
+#![tactic(auto)]
+
 ghost use Rattle.std.specs.Prelude.{◌≡◌, ◌+◌, ◌≤◌, ◌<◌, length, take};
 ghost use Rattle.theory.specs.Tables.{cell};
 ghost use Rattle.takes.specs.Readings.{Readable, FrontOf, BackOf};
@@ -8,21 +10,21 @@ ghost use Rattle.takes.specs.Takes.{Takeable, CircleOf, TakenIn};
 use rooms::Room;
 
 // Where a reading stopped: the point, and the place in the word.
-#[derive(Drop)]
+#[derive(Clone, Copy)]
 pub struct Stop {
     pub point: u32,
     pub count: usize,
 }
 
 // What has grown: the points made, and the points pending.
-#[derive(Drop)]
+#[derive(Clone, Copy)]
 pub struct Grown {
     pub made: usize,
     pub count: usize,
 }
 
 // What building a circle says: what has grown, and the letters of the reduced word.
-#[derive(Drop)]
+#[derive(Clone, Copy)]
 pub struct Circled {
     pub made: usize,
     pub count: usize,
@@ -30,7 +32,7 @@ pub struct Circled {
 }
 
 // What taking a word in says: the points made, and the letters of the reduced word.
-#[derive(Drop)]
+#[derive(Clone, Copy)]
 pub struct Taken {
     pub made: usize,
     pub left: usize,
