@@ -1,4 +1,6 @@
 // Numbering in place: points get their final names in the order in which they are met.
+#![tactic(auto)]
+
 ghost use Rattle.std.specs.Prelude.{◌≡◌, ◌*◌, ◌<◌, ◌≤◌, length, get_or};
 ghost use Rattle.theory.specs.Letters.{usual};
 ghost use Rattle.theory.specs.Tables.{cell};
