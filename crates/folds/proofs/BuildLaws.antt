@@ -14,12 +14,12 @@ use native.Mathlib.Decide.{ℕ_discrete, dec_lt}
 use native.Mathlib.Omega.{arith}
 use lib.ListN.{length, get_or, drop, replicate, length-replicate, get_or-replicate, get_or-append}
 use Rattle.theory.specs.Words.{Member}
-use Rattle.theory.specs.Letters.{letters_in, words_of, usual}
+use Rattle.theory.specs.Letters.{words_of, usual}
 use Rattle.theory.specs.Refusals.{text_refusal}
 use Rattle.theory.specs.Tables.{absent, Cells, cell}
 use Rattle.theory.specs.Canonical.{Canonical}
 use Rattle.theory.specs.Graphs.{start_points}
-use Rattle.theory.specs.Subgroups.{AcceptsExactly, TableOf}
+use Rattle.theory.specs.Subgroups.{AcceptsExactly}
 use Rattle.theory.proofs.TableLaws.{Bounded, cell_in, cell_here, row_below, cell_bounded, length_usual, get_or_usual}
 use Rattle.theory.proofs.RefusalLaws.{alphabet_in}
 use Rattle.theory.proofs.TableRefusalLaws.{text_alphabet}
@@ -36,12 +36,12 @@ use Rattle.engine.proofs.FoldLaws.{folded_exact}
 use Rattle.engine.proofs.FoldedTable.{settled_ready, usual_closed}
 use Rattle.engine.proofs.TableExists.{good_words, all_words, list_points, list_short}
 use Rattle.rooms.specs.declared.Room.{Room}
-use Rattle.rooms.specs.Rooms.{state_in, with_made, Lent}
+use Rattle.rooms.specs.Rooms.{state_in}
 use Rattle.rooms.proofs.UniteLaws.{drop_behind}
 use Rattle.lists.specs.declared.StartSize.{StartSize}
 use Rattle.numbering.specs.Numbered.{Roomed, NumberedIn}
 use Rattle.numbering.proofs.Numbers.{number_canonical, number_bounded, number_base, number_fits, number_exact}
-use Rattle.folds.specs.Causes.{rows_of, work_of}
+use Rattle.folds.specs.Causes.{rows_of}
 use Rattle.folds.specs.Folds.{Cleared}
 use Rattle.folds.specs.Rows.{Prepared, WordsIn, Foldable, Built}
 

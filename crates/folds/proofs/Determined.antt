@@ -3,7 +3,7 @@
 --   words_determined, build_determined : two outcomes of `take_words`, and of `build`, that conform on one input are equal, answer and cells
 --   fold_determined  : two outcomes that conform on one input are equal, answer and cells
 -- One subgroup has one table, the room behind its points is absent, and every complete folding has the same counts. Assumes nothing.
-use mathlib.Core.Path.{◌≡◌, refl, sym, ◌∙◌, ap, subst, fun_ext}
+use mathlib.Core.Path.{◌≡◌, refl, sym, ◌∙◌, ap, fun_ext}
 use mathlib.Core.Logic.{by_cases}
 use mathlib.Core.Bool.{true}
 use mathlib.Core.Option.{Option, none, some}

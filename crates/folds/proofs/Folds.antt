@@ -5,8 +5,8 @@
 --   every_list_folds              : where nothing is refused there are figures, and the table is the list's
 --   fold_exact                    : the table accepts exactly the members
 --   folds_equal_iff_same_subgroup : two tables over one alphabet are equal exactly if the lists generate the same subgroup
---   fold-counts-are-folds         : merging folds and points are the start points, closing folds and rank the words not empty
---   folds-few                     : all folds together are at most S, and so at most L
+--   fold_counts_are_folds         : merging folds and points are the start points, closing folds and rank the words not empty
+--   folds_few                     : all folds together are at most S, and so at most L
 --   fold_prefixes                 : when two prefixes of reduced listed words end at one point
 -- Assumes nothing.
 use mathlib.Core.Path.{◌≡◌, refl, ◌∙◌, ap, subst}
@@ -99,18 +99,18 @@ module _ (n : ℕ) (list table work : List ℕ) (f : FoldFigures) (table' work' 
   unfolding figures_as
   rank = ap (λ (c : Figures). c.rank) made_done.1.counts
 
-  pub fold-counts-are-folds
+  pub fold_counts_are_folds
       : (f.merging + f.points ≡ f.start.points) × (f.closing + f.counts.rank ≡ non_empty_words (words_of list))
-  fold-counts-are-folds =
+  fold_counts_are_folds =
       let d = made_done.1 in
       let x = folding_exists (start_graph (words_of list)) in
       let c = fold_counts d.subgroup x.3 in
       let e = d.folds x.0 x.1 x.2 x.3 in
       (omega (arith, c.0, e.0, d.start_points), omega (arith, c.1, e.1, rank))
 
-  pub folds-few
+  pub folds_few
       : (f.merging + f.closing ≤ reduced_length (words_of list)) × (f.merging + f.closing ≤ letters_in list)
-  folds-few =
+  folds_few =
       let x = folding_exists (start_graph (words_of list)) in
       let c = folds_at_most list x.3.0 in
       let e = made_done.1.folds x.0 x.1 x.2 x.3 in

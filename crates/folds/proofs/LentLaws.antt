@@ -1,23 +1,23 @@
 -- What the parts of `fold` say, on plain values.
 --   not_refused  : what is lent is enough
---   made-outcome, never_refused : the outcome of `fold_lent`
+--   made_outcome, never_refused : the outcome of `fold_lent`
 --   six, seven   : the refusals of `fold_text`; scan_refused : those of the list
 -- Assumes nothing.
 use mathlib.Core.Path.{◌≡◌, refl, sym, ◌∙◌, ap, subst}
-use mathlib.Core.Bool.{true, false, not}
+use mathlib.Core.Bool.{true}
 use mathlib.Core.Option.{Option, none, some}
-use mathlib.Core.List.{List, ◌++◌}
+use mathlib.Core.List.{List}
 use Prim.Native.Nat.{ℕ, ◌+◌, ◌-◌, ◌*◌, ◌≤◌, ◌<◌}
 use native.Mathlib.Nat.{mul-le-mul_right}
 use native.Mathlib.Omega.{arith}
-use lib.ListN.{length, drop, replicate}
+use lib.ListN.{length}
 use borrow.Author.Tests.{lt-ltb, le-ltb}
-use Rattle.theory.specs.Letters.{letters_in, words_of, usual}
-use Rattle.theory.specs.Refusals.{Refusal as FirstCause, or_else, refused_if, is_alphabet, text_refusal}
+use Rattle.theory.specs.Letters.{words_of, usual}
+use Rattle.theory.specs.Refusals.{Refusal as FirstCause, is_alphabet, text_refusal}
 use Rattle.theory.specs.TableRefusals.{is_lent, check_refusal, cell_refusal}
 use Rattle.theory.specs.Tables.{cell}
 use Rattle.theory.specs.Basis.{rank_of}
-use Rattle.theory.specs.Graphs.{Graph, start_graph, non_empty_words, reduced_length}
+use Rattle.theory.specs.Graphs.{Graph, start_graph}
 use Rattle.theory.specs.Folds.{CompleteFolding}
 use Rattle.theory.proofs.RefusalLaws.{alphabet_in}
 use Rattle.theory.proofs.TableRefusalLaws.{text_alphabet, in_lent}
@@ -26,25 +26,21 @@ use Rattle.theory.proofs.StartLaws.{reduced_length_written, written_letters}
 use Rattle.theory.proofs.FoldCounts.{folding_exists}
 use Rattle.engine.proofs.TableExists.{list_short}
 use Rattle.theory.proofs.Main.{fold_counts, start_graph_sizes}
-use Rattle.cells.specs.Filled.{filled}
-use Rattle.cells.proofs.FillTurn.{length_filled, filled_drop}
 use Rattle.refusals.specs.declared.Refusal.{Refusal}
 use Rattle.refusals.specs.Given.{given_as, given}
 use Rattle.lists.specs.declared.StartSize.{StartSize}
 use Rattle.lists.specs.declared.Scanned.{Scanned}
-use Rattle.lists.specs.declared.Scanned.TheVariants.{Fine as ScannedFine, Refused as ScannedRefused}
+use Rattle.lists.specs.declared.Scanned.TheVariants.{Refused as ScannedRefused}
 use Rattle.lists.specs.Scans.{scanned_as}
 use Rattle.tables.specs.declared.Checked.{Checked}
 use Rattle.tables.specs.declared.Checked.TheVariants.{Refused as CheckRefused, Counted}
 use Rattle.tables.specs.declared.Figures.{Figures}
-use Rattle.tables.specs.Checks.{figures_as, checked_for, checked_as}
-use Rattle.rooms.proofs.UniteLaws.{drop_behind}
+use Rattle.tables.specs.Checks.{figures_as, checked_as}
 use Rattle.folds.specs.declared.BuildSize.{BuildSize}
 use Rattle.folds.specs.declared.FoldFigures.{FoldFigures}
-use Rattle.folds.specs.declared.Folded.{Folded}
 use Rattle.folds.specs.declared.Folded.TheVariants.{Refused, Made}
 use Rattle.folds.specs.Causes.{rows_of, work_of, lent_refusal, fold_refusal}
-use Rattle.folds.specs.Folds.{Cleared, FoldsAs, Done, OutcomeFor, FoldOutcome}
+use Rattle.folds.specs.Folds.{Done, OutcomeFor, FoldOutcome}
 use Rattle.folds.specs.Rows.{Foldable, Built}
 use Rattle.folds.proofs.BuildLaws.{rows_few}
 
@@ -175,11 +171,11 @@ module _ {n : ℕ} {list table work : List ℕ} (h : Foldable n list table work)
       pub closing_fits : cs.rank ≤ st.edges + 1 - st.points
       closing_fits = omega (arith, some_fold.3)
 
-      pub made-outcome
+      pub made_outcome
           : FoldOutcome n list table work
           (Made (record { points = N; counts = cs; start = st; merging = st.points - N; closing = st.edges + 1 - st.points - cs.rank })) t w
       unfolding ws
-      made-outcome =
+      made_outcome =
           subst (λ o. OutcomeFor n list table work o (Made made) t w) (sym (not_refused h)) (made, refl, done)
         where
           made : FoldFigures

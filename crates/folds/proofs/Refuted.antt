@@ -33,7 +33,7 @@ use Rattle.folds.specs.declared.Folded.TheVariants.{Refused, Made}
 use Rattle.folds.specs.Causes.{lent_refusal, fold_refusal}
 use Rattle.folds.specs.Folds.{FoldOutcome}
 use Rattle.folds.proofs.CauseLaws.{fold_refusal_none}
-use Rattle.folds.proofs.Folds.{made_done, every_list_folds, fold_exact, fold-counts-are-folds}
+use Rattle.folds.proofs.Folds.{made_done, every_list_folds, fold_exact, fold_counts_are_folds}
 
 -- ── Refusals and buffers ──
 
@@ -141,4 +141,4 @@ pub rank_as_given : (table work : List ℕ) (f : FoldFigures) (table' work' : Li
 rank_as_given table work f table' work' e h =
     let x = examples_hold.1.1.1.1.0.folding in
     let d = (made_done 2 twice.text table work f table' work' h).1.folds x.0 1 1 x.1 in
-    omega (arith, e, d.1, (fold-counts-are-folds 2 twice.text table work f table' work' h).1, two_words)
+    omega (arith, e, d.1, (fold_counts_are_folds 2 twice.text table work f table' work' h).1, two_words)

@@ -1,24 +1,22 @@
 -- The turns of `take_words` on plain values: the words before `at` are taken in, those behind it are still to come.
 -- Assumes nothing.
-use mathlib.Core.Path.{◌≡◌, refl, sym, ◌∙◌, ap, subst, subst₂}
-use mathlib.Core.Bool.{true}
-use mathlib.Core.Option.{none}
+use mathlib.Core.Path.{◌≡◌, refl, sym, ◌∙◌, ap, subst}
 use mathlib.Core.List.{List, [], ◌∷◌}
-use Prim.Native.Nat.{ℕ, suc, ◌+◌, ◌-◌, ◌*◌, ◌≤◌, ◌<◌}
+use Prim.Native.Nat.{ℕ, ◌+◌, ◌-◌, ◌*◌, ◌≤◌, ◌<◌}
 use native.Mathlib.Omega.{arith}
 use lib.ListN.{length, take, drop, drop_of_length-le}
 use Rattle.theory.specs.Words.{reduced}
-use Rattle.theory.specs.Letters.{first_word, words_of, letters_in, usual}
+use Rattle.theory.specs.Letters.{first_word, words_of, usual}
 use Rattle.theory.specs.Graphs.{start_points, new_points, start_graph, reduced_length}
 use Rattle.theory.proofs.TextLaws.{word_letters, letters_drop}
 use Rattle.theory.proofs.TableLaws.{length-up_to}
 use Rattle.theory.proofs.StartLaws.{start_edges, reduced_length_written, written_letters}
 use Rattle.engine.specs.Engine.{State, start, taken_in, drained, folded}
-use Rattle.engine.specs.Stages.{Stage, Settled, Roomy}
+use Rattle.engine.specs.Stages.{Settled, Roomy}
 use Rattle.engine.proofs.TakeLaws.{start_settled}
 use Rattle.engine.proofs.TableExists.{AllWords, good_words, list_points, list_short}
 use Rattle.rooms.specs.declared.Room.{Room}
-use Rattle.rooms.specs.Rooms.{state_in, with_made, Lent, Plain, Fit}
+use Rattle.rooms.specs.Rooms.{state_in, with_made, Plain, Fit}
 use Rattle.rooms.proofs.RoomLaws.{all_words, plain_stage}
 use Rattle.lists.specs.Counts.{next_start}
 use Rattle.lists.proofs.CountTurn.{rest_of}
@@ -142,10 +140,10 @@ module _ {r : Room} {list table₀ work₀ : List ℕ} {made points edges at : �
               ∙ ap (folded (usual r.n) (state_in (with_made r made) table work 0)) (sym walk)
               ∙ h.ends
 
-          cells-ahead
+          cells_ahead
               : folded_cells r.rows (usual r.n) (state_in (with_made r g.made) table' work' 0) work' (words_of (drop next list))
               ≡ folded_cells r.rows (usual r.n) start work₀ (words_of list)
-          cells-ahead =
+          cells_ahead =
               ap (λ s. folded_cells r.rows (usual r.n) s work' (words_of (drop next list))) taken.left.state
               ∙ ap (λ w. folded_cells r.rows (usual r.n) after w (words_of (drop next list))) taken.left.cells
               ∙ cells_more r.rows (usual r.n) (state_in (with_made r made) table work 0) work (first_word d) (words_of (drop next list))
@@ -163,7 +161,7 @@ module _ {r : Room} {list table₀ work₀ : List ℕ} {made points edges at : �
                 pointed = omega (arith, h.pointed, more, taken.letters, fresh);
                 edged = omega (arith, h.edged, longer, taken.letters);
                 ends = ahead;
-                cells = cells-ahead;
+                cells = cells_ahead;
                 table_same = taken.left.table_same ∙ h.table_same;
                 table_rest = taken.left.table_rest ∙ h.table_rest;
                 work_same = taken_long takeable taken ∙ h.work_same;

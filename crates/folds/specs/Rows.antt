@@ -5,10 +5,10 @@
 --   WordsIn r list ..           <-> every word of the list has been taken in
 --   Foldable n list table work  <-> nothing is refused; Built <-> the table and the work cells afterwards
 -- Assumes nothing.
-use Rattle.std.specs.Prelude.{◌≡◌, true, List, [], ◌∷◌, ℕ, ◌+◌, ◌*◌, ◌≤◌, length, drop}
+use Rattle.std.specs.Prelude.{◌≡◌, true, List, [], ◌∷◌, ℕ, ◌*◌, ◌≤◌, length, drop}
 use Rattle.std.proofs.Math.Option.{none}
 use Rattle.theory.specs.Words.{reduced}
-use Rattle.theory.specs.Letters.{letters_in, words_of, usual}
+use Rattle.theory.specs.Letters.{words_of, usual}
 use Rattle.theory.specs.Refusals.{text_refusal}
 use Rattle.theory.specs.Subgroups.{TableOf}
 use Rattle.theory.specs.Graphs.{start_graph}

@@ -1,4 +1,6 @@
 // Folding a list of words into the canonical table of its subgroup.
+#![tactic(auto)]
+
 ghost use Rattle.std.specs.Prelude.{◌≡◌, true};
 ghost use Rattle.std.proofs.Math.Option.{none};
 ghost use Rattle.theory.specs.Refusals.{text_refusal};
@@ -11,7 +13,7 @@ use rooms::Room;
 use tables::{Checked, Figures, Subgroup};
 
 // The figures of a fold: points, edges with rank and index, the start graph's size, and the folds of each kind.
-#[derive(Drop)]
+#[derive(Clone, Copy)]
 pub struct FoldFigures {
     pub points: u64,
     pub counts: Figures,
@@ -21,14 +23,14 @@ pub struct FoldFigures {
 }
 
 // What building a table says: its points, and the size of the start graph.
-#[derive(Drop)]
+#[derive(Clone, Copy)]
 pub struct BuildSize {
     pub points: usize,
     pub start: StartSize,
 }
 
 // What folding says.
-#[derive(Drop)]
+#[derive(Clone, Copy)]
 pub enum Folded {
     Refused(Refusal),
     Made(FoldFigures),
