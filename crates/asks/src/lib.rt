@@ -1,4 +1,6 @@
 // A list and a query in one call: the list is folded, and the query answered on its table.
+#![tactic(auto)]
+
 ghost use Rattle.std.specs.Prelude.{◌≡◌, max};
 ghost use Rattle.std.proofs.Math.Option.{none};
 ghost use Rattle.theory.specs.Refusals.{turn};
