@@ -40,7 +40,7 @@ use Rattle.folds.specs.declared.Folded.TheVariants.{Made}
 use Rattle.folds.specs.Causes.{rows_of, work_of}
 use Rattle.folds.specs.Folds.{FoldOutcome}
 use Rattle.folds.proofs.CauseLaws.{fine_fold}
-use Rattle.folds.proofs.Folds.{made_done, every_list_folds, fold-counts-are-folds}
+use Rattle.folds.proofs.Folds.{made_done, every_list_folds, fold_counts_are_folds}
 use Rattle.accords.proofs.FoldedTables.{folded_cells_lem}
 
 -- tables of the same points and cells have the same figures
@@ -78,7 +78,7 @@ module _ (n N : ℕ) (t work out : List ℕ) (words bytes : ℕ) (work' out' : L
     pub basis_closes_nothing : f.closing ≡ 0
     unfolding figures_as
     basis_closes_nothing =
-        let c = (fold-counts-are-folds n (take bytes out') table cells f table' cells' k).1 in
+        let c = (fold_counts_are_folds n (take bytes out') table cells f table' cells' k).1 in
         let r : f.counts.rank ≡ rank_of (cell n N t) N (usual n) = ap (λ (g : Figures). g.rank) basis_folds_figures in
         omega (
           arith,
