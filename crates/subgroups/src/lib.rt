@@ -1,4 +1,6 @@
 // The library that C and Rust programs link: each function answers a struct of plain numbers, laid out as in C.
+#![tactic(auto)]
+
 ghost use Rattle.std.specs.Prelude.{◌≡◌};
 ghost use Rattle.subgroups.specs.Replies.{finite_of, index_of, made_reply, reply_of, counted_reply, checked_reply, answer_reply, equality_reply, judged_reply, expressed_reply, basis_reply, saved_reply, found_reply, loaded_reply};
 ghost use Rattle.subgroups.specs.Outcomes.{FoldReplied, AskReplied, CheckReplied, MemberReplied, EqualReplied, NormalReplied, ExpressReplied, BasisReplied, SaveTableReplied, SaveListReplied, LoadReplied, ShorterReplied};
@@ -15,7 +17,7 @@ use tables::{Checked, Figures, Index, Subgroup};
 
 // What folding answers: a refusal (number 0 if there is none), or the figures of the table. What does not apply is 0.
 #[repr(C)]
-#[derive(Drop)]
+#[derive(Clone, Copy)]
 pub struct FoldReply {
     pub number: u64,
     pub place: u64,
@@ -108,7 +110,7 @@ pub extern "C" fn subgroups_fold(
 
 // What a question answers: a refusal (number 0 if there is none), or 1 for yes and 0 for no.
 #[repr(C)]
-#[derive(Drop)]
+#[derive(Clone, Copy)]
 pub struct YesReply {
     pub number: u64,
     pub place: u64,
@@ -242,7 +244,7 @@ pub extern "C" fn subgroups_normal(n: u64, points: u64, table: &[u32], work: &mu
 
 // What expressing answers: a refusal (number 0 if there is none), or 1 for a member and how many numbers were written, or 0.
 #[repr(C)]
-#[derive(Drop)]
+#[derive(Clone, Copy)]
 pub struct ExpressReply {
     pub number: u64,
     pub place: u64,
@@ -293,7 +295,7 @@ pub extern "C" fn subgroups_express(
 
 // What checking a table answers: a refusal (number 0 if there is none), or its counts. What does not apply is 0.
 #[repr(C)]
-#[derive(Drop)]
+#[derive(Clone, Copy)]
 pub struct CheckReply {
     pub number: u64,
     pub place: u64,
@@ -345,7 +347,7 @@ pub extern "C" fn subgroups_check(n: u64, points: u64, table: &[u32]) -> CheckRe
 
 // What writing answers: a refusal (number 0 if there is none), or how many words (0 where words are not told) and bytes.
 #[repr(C)]
-#[derive(Drop)]
+#[derive(Clone, Copy)]
 pub struct WrittenReply {
     pub number: u64,
     pub place: u64,
@@ -430,7 +432,7 @@ pub extern "C" fn subgroups_save_list(n: u64, list: &[u8], out: &mut [u8]) -> Wr
 
 // What loading answers: a refusal and kind 0; or a table, kind 1, with n and its points; or a list, kind 2, with n and how many words and bytes its text has.
 #[repr(C)]
-#[derive(Drop)]
+#[derive(Clone, Copy)]
 pub struct LoadReply {
     pub number: u64,
     pub place: u64,
@@ -495,7 +497,7 @@ pub extern "C" fn subgroups_load(file: &[u8], table: &mut [u32], text: &mut [u8]
 
 // Which of two lists is handed back (1 the first, 2 the second, 0 neither), and how many of its bytes.
 #[repr(C)]
-#[derive(Drop)]
+#[derive(Clone, Copy)]
 pub struct PartReply {
     pub which: u64,
     pub bytes: u64,
