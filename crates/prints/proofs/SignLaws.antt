@@ -1,12 +1,12 @@
 -- Signed numbers of 32 bits, widened to 64: minus fits, and the size is what is left without the sign.
 --   widened z               == the number z of 32 bits, as 64 bits hold it
---   read-back               : it is z
+--   read_back               : it is z
 --   turned_fits, turned_unsigned, kept_unsigned : what the machine asks of minus and of dropping the sign
 --   size_turned, size_kept  : the size of a number below 0, and of another
 -- Assumes nothing.
 use mathlib.Core.Path.{◌≡◌, refl, sym, ◌∙◌, ap, subst}
 use mathlib.Core.Bool.{Bool, true, false, true≢false}
-use Prim.Native.Nat.{ℕ, zero, suc, ◌-◌, ◌+◌, ◌≤◌, ◌<◌}
+use Prim.Native.Nat.{zero, suc, ◌-◌, ◌+◌}
 use native.Mathlib.Omega.{arith}
 use lib.Dec.{T}
 use lib.IntN.{ℤ, pos, negsuc, neg_ℤ, nat_abs, ◌-ℤ◌}

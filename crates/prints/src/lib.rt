@@ -1,37 +1,71 @@
 // Writing to standard output: texts, numbers in decimal, and refusals. What is written no contract can say: programs are run and compared.
+#![tactic(auto)]
+
 ghost use Rattle.std.specs.Prelude.{◌≡◌, nat_abs};
 
-use libc::STDOUT_FILENO;
 use refusals::Refusal;
+use std::io;
+
+// Standard output, and the first error met in writing to it, after which nothing more is written.
+#[derive(Drop)]
+pub struct Output {
+    stream: io::Stdout,
+    failed: Option<io::Error>,
+}
+
+impl Output {
+    // Standard output, with no error met yet.
+    pub fn new(stream: io::Stdout) -> Output {
+        Output {
+            stream,
+            failed: None,
+        }
+    }
+
+    // The end of writing: the first error, if one was met.
+    pub fn finish(self) -> io::Result<()> {
+        match self.failed {
+            Some(error) => Err(error),
+            None => Ok(()),
+        }
+    }
+}
+
+// Writes a text as it is.
+pub fn text(out: &mut Output, s: &[u8]) {
+    if out.failed.is_none() {
+        out.failed = out.stream.write_all(s).err();
+    }
+}
 
 // Writes a number in decimal.
-pub fn number(x: u64) {
+pub fn number(out: &mut Output, x: u64) {
     let mut digits = [0u8; 20];
     let size = decimals::write_decimal(x, &mut digits);
     if size <= 20 {
-        io::write_all(STDOUT_FILENO, &digits[..size]);
+        text(out, &digits[..size]);
     }
 }
 
 // Writes a refusal: its number and its place.
-pub fn refusal(r: Refusal) {
-    io::write_all(STDOUT_FILENO, b"refused ");
-    number(r.number);
-    io::write_all(STDOUT_FILENO, b" ");
-    number(r.place);
+pub fn refusal(out: &mut Output, r: Refusal) {
+    text(out, b"refused ");
+    number(out, r.number);
+    text(out, b" ");
+    number(out, r.place);
 }
 
 // Writes a number, with a space before it.
-pub fn next(x: u64) {
-    io::write_all(STDOUT_FILENO, b" ");
-    number(x);
+pub fn next(out: &mut Output, x: u64) {
+    text(out, b" ");
+    number(out, x);
 }
 
 // Writes cells, each with a space before it.
-pub fn cells(cells: &[u32]) {
+pub fn cells(out: &mut Output, cells: &[u32]) {
     let mut i: usize = 0;
     while i < cells.len() {
-        next(cells[i] as u64);
+        next(out, cells[i] as u64);
         i += 1;
     }
 }
@@ -45,22 +79,17 @@ fn size_of(x: i32) -> u64
 }
 
 // Writes a signed number, with a space before it.
-pub fn signed(x: i32) {
+pub fn signed(out: &mut Output, x: i32) {
     if x < 0 {
-        io::write_all(STDOUT_FILENO, b" -");
+        text(out, b" -");
     } else {
-        io::write_all(STDOUT_FILENO, b" ");
+        text(out, b" ");
     }
-    number(size_of(x));
-}
-
-// Writes a text as it is.
-pub fn text(s: &[u8]) {
-    io::write_all(STDOUT_FILENO, s);
+    number(out, size_of(x));
 }
 
 // Writes the line of a refusal.
-pub fn refused(r: Refusal) {
-    refusal(r);
-    text(b"\n");
+pub fn refused(out: &mut Output, r: Refusal) {
+    refusal(out, r);
+    text(out, b"\n");
 }
