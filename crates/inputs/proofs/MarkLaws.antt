@@ -6,19 +6,19 @@
 --   list_run_lem                     : the list of an input that is not bad is the text of its run of '+' lines
 -- Assumes nothing.
 use mathlib.Core.Path.{◌≡◌, refl, sym, ◌∙◌, ap}
-use mathlib.Core.Bool.{Bool, true, false, cond, ◌||◌, true≢false}
+use mathlib.Core.Bool.{true, false, cond, true≢false}
 use mathlib.Core.List.{List, [], ◌∷◌, ◌++◌}
-use Prim.Native.Nat.{ℕ, zero, suc, ◌+◌, ◌-◌, ◌<◌, ◌≤◌}
+use Prim.Native.Nat.{ℕ, ◌+◌, ◌<◌, ◌≤◌}
 use native.Mathlib.Omega.{arith}
 use lib.Dec.{eqb}
-use lib.ListN.{length, get_or, take, drop, length-drop}
+use lib.ListN.{length, get_or, drop, length-drop}
 use lib.Seq.{get_or-take, get_or-drop, drop-drop}
 use borrow.Author.Tests.{eq-eqb, ne_eqb, eqb-true}
 use Rattle.theory.proofs.WordLaws.{by_test}
 use Rattle.lists.specs.Counts.{next_start}
 use Rattle.inputs.specs.Inputs.{lines_of, plus_mark, query_mark, is_marked, is_bad_input, list_of}
 use Rattle.inputs.specs.Parsed.{run_length, run_text}
-use Rattle.inputs.proofs.LineLaws.{Line, line_of, no_line, LineAt, line_at, SomeLine, some_line, lines_end}
+use Rattle.inputs.proofs.LineLaws.{Line, line_of, no_line, LineAt, some_line, lines_end}
 
 -- ── The mark of a line ──
 

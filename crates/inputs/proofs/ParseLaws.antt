@@ -2,9 +2,9 @@
 --   parse_bad, parse_refused, parse_accepted : the three answers
 -- Assumes nothing.
 use mathlib.Core.Path.{◌≡◌, refl, sym, ◌∙◌, ap}
-use mathlib.Core.Bool.{true, false, cond}
+use mathlib.Core.Bool.{true, false}
 use mathlib.Core.List.{List}
-use Prim.Native.Nat.{ℕ, zero, suc, ◌+◌, ◌-◌, ◌<◌, ◌≤◌}
+use Prim.Native.Nat.{ℕ, zero, suc, ◌+◌, ◌<◌, ◌≤◌}
 use native.Mathlib.Omega.{arith}
 use lib.ListN.{length, drop, length-drop}
 use lib.Seq.{drop-drop}
@@ -24,7 +24,7 @@ use Rattle.inputs.specs.Inputs.{
 }
 use Rattle.inputs.specs.Parsed.{run_length, run_text, fronted_by, queries_place, accepted_as, parsed_of, ParsedInto}
 use Rattle.inputs.specs.declared.Parsed.TheVariants.{BadInput, Refused, Accepted}
-use Rattle.inputs.proofs.LineLaws.{line_size, size_inside, first_size, later_lines_lem, next_first}
+use Rattle.inputs.proofs.LineLaws.{size_inside, first_size, later_lines_lem, next_first}
 use Rattle.inputs.proofs.MarkLaws.{after_run, lines_run, bad_plus, bad_asked, good_asked, list_run_lem}
 
 -- a number that is not 0 is accepted

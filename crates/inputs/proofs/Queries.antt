@@ -3,9 +3,9 @@
 --   parse_queries : the walk from the queries' place gives the queries
 --   list_fits, query_fits : the list and a query stand inside the bytes
 -- Assumes nothing.
-use mathlib.Core.Path.{◌≡◌, refl, sym, ◌∙◌, ap, subst}
-use mathlib.Core.Bool.{Bool, true, false, cond, ◌||◌, true≢false}
-use mathlib.Core.List.{List, [], ◌∷◌, ◌++◌, map}
+use mathlib.Core.Path.{◌≡◌, refl, sym, ◌∙◌, ap}
+use mathlib.Core.Bool.{true, false, true≢false}
+use mathlib.Core.List.{List, [], ◌∷◌, map}
 use Prim.Native.Nat.{ℕ, zero, suc, ◌+◌, ◌-◌, ◌<◌, ◌≤◌}
 use native.Mathlib.Omega.{arith}
 use lib.ListN.{length, take, drop, length-drop, length-append}
@@ -39,10 +39,9 @@ use Rattle.inputs.specs.Parsed.{
   walked_on,
   walked_from,
 }
-use Rattle.inputs.specs.declared.Parsed.{Parsed}
-use Rattle.inputs.specs.declared.Parsed.TheVariants.{BadInput, Refused, Accepted}
-use Rattle.inputs.specs.declared.Query.TheVariants.{Asked, Ended}
-use Rattle.inputs.proofs.LineLaws.{Line, line_of, no_line, line_size, size_inside, first_size, later_lines_lem}
+use Rattle.inputs.specs.declared.Parsed.TheVariants.{BadInput, Accepted}
+use Rattle.inputs.specs.declared.Query.TheVariants.{Asked}
+use Rattle.inputs.proofs.LineLaws.{Line, line_of, line_size, first_size, later_lines_lem}
 use Rattle.inputs.proofs.MarkLaws.{after_run, lines_run, bad_plus, list_run_lem, two_marks}
 use Rattle.inputs.proofs.MoveTurn.{front_drop, line_text}
 use Rattle.inputs.proofs.QueryLaws.{without_length}

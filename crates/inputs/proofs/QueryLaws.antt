@@ -1,8 +1,8 @@
 -- Laws of `query_at` (`specs/Parsed`): a line as a query, by places; and the walk over the queries.
 --   query_end, query_inside, query_is : what `query_at` answers, from the places that it computes
 -- Assumes nothing.
-use mathlib.Core.Path.{◌≡◌, refl, sym, ◌∙◌, ap}
-use mathlib.Core.List.{List, [], ◌∷◌}
+use mathlib.Core.Path.{◌≡◌, sym, ◌∙◌, ap}
+use mathlib.Core.List.{List}
 use Prim.Native.Nat.{ℕ, ◌+◌, ◌-◌, ◌<◌, ◌≤◌}
 use native.Mathlib.Omega.{arith}
 use lib.ListN.{length, take, drop}
@@ -10,9 +10,8 @@ use lib.Seq.{length-take-le, drop-drop}
 use Rattle.theory.specs.Letters.{word_length}
 use Rattle.theory.proofs.TextLaws.{word_length_le}
 use Rattle.lists.specs.Counts.{next_start}
-use Rattle.inputs.specs.Inputs.{lines_of, without_end}
+use Rattle.inputs.specs.Inputs.{without_end}
 use Rattle.inputs.specs.Parsed.{query_as, query_at}
-use Rattle.inputs.specs.declared.Query.{Query}
 use Rattle.inputs.specs.declared.Query.TheVariants.{Asked, Ended}
 use Rattle.inputs.proofs.LineLaws.{some_line, lines_end}
 use Rattle.inputs.proofs.MoveTurn.{line_text}

@@ -4,7 +4,7 @@
 --   all_refused : not every first line is refused (the line 1)
 --   untouched   : a list is moved (the lines 1 and +a)
 -- Assumes nothing.
-use mathlib.Core.Path.{◌≡◌, refl, sym, ◌∙◌, ap}
+use mathlib.Core.Path.{◌≡◌, refl, ◌∙◌, ap}
 use mathlib.Core.List.{List, [], ◌∷◌}
 use Prim.Native.Nat.{ℕ}
 use native.Mathlib.Omega.{arith}
@@ -14,7 +14,6 @@ use Rattle.decimals.specs.Decimal.{digit_bytes, decimal_of}
 use Rattle.refusals.specs.declared.Refusal.{Refusal}
 use Rattle.inputs.specs.Inputs.{lines_of, without_end, is_marked, is_bad_input, list_of, is_same, alphabet_of}
 use Rattle.inputs.specs.Parsed.{run_length, fronted_by, queries_place, parsed_of, ParsedInto}
-use Rattle.inputs.specs.declared.Parsed.{Parsed}
 use Rattle.inputs.specs.declared.Parsed.TheVariants.{BadInput, Refused, Accepted}
 
 -- the lines 1; 1 and a blank one; 1 and +a

@@ -1,4 +1,6 @@
 // The input of the printing program: n, the list and the queries, found in the bytes where they stand.
+#![tactic(auto)]
+
 ghost use Rattle.std.specs.Prelude.{◌≡◌, ◌+◌, ◌-◌, ◌≤◌, length, drop, [], ◌∷◌};
 ghost use Rattle.inputs.specs.Inputs.{lines_of, first_line, without_end, plus_mark, alphabet_of};
 ghost use Rattle.inputs.specs.Parsed.{run_length, run_text, fronted_by, digit_from, moved_down, ParsedInto, query_at};
@@ -7,7 +9,7 @@ use refusals::Refusal;
 
 // What parsing an input says. Of an accepted one the list stands in the first `list` bytes afterwards, and the lines of
 // the queries from `queries` on.
-#[derive(Drop)]
+#[derive(Clone, Copy)]
 pub enum Parsed {
     BadInput,
     Refused(Refusal),
@@ -15,7 +17,7 @@ pub enum Parsed {
 }
 
 // A line as a query: where its text starts, its bytes, and where the next line starts.
-#[derive(Drop)]
+#[derive(Clone, Copy)]
 pub enum Query {
     Ended,
     Asked {
