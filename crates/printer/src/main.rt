@@ -1,5 +1,7 @@
 // The printing program of document 01: reads n, a list and queries, and prints the figures of the list's subgroup, its
 // basis, and an answer to each query. It has five buffers; the list is put together in the one of the input.
+#![tactic(auto)]
+
 ghost use Rattle.std.specs.Prelude.{◌≡◌, ◌≤◌, length, take};
 ghost use Rattle.inputs.specs.Parsed.{walked_from};
 ghost use Rattle.printer.specs.LentCells.{BasisRun, lent, after_query, after_queries, buffers_of, ListDone, InputDone};
@@ -9,120 +11,130 @@ use expressions::Expressed;
 use folds::{FoldFigures, Folded};
 use inputs::{Parsed, Query};
 use normals::Judged;
+use prints::Output;
+use std::io;
 use tables::{Figures, Index, Subgroup};
 
 // Writes a line of a name and a number.
-fn print_figure(name: &[u8], x: u64) {
-    prints::text(name);
-    prints::next(x);
-    prints::text(b"\n");
+fn print_figure(out: &mut Output, name: &[u8], x: u64) {
+    prints::text(out, name);
+    prints::next(out, x);
+    prints::text(out, b"\n");
 }
 
 // Writes the line of the index.
-fn print_index(index: Index) {
+fn print_index(out: &mut Output, index: Index) {
     match index {
-        Index::Finite(k) => print_figure(b"index", k),
-        Index::Infinite => prints::text(b"index infinite\n"),
+        Index::Finite(k) => print_figure(out, b"index", k),
+        Index::Infinite => prints::text(out, b"index infinite\n"),
     }
 }
 
 // Writes the lines of the table's figures.
-fn print_counts(points: u64, counts: Figures) {
+fn print_counts(out: &mut Output, points: u64, counts: Figures) {
     let index = counts.index;
-    print_figure(b"points", points);
-    print_figure(b"edges", counts.edges);
-    print_figure(b"rank", counts.rank);
-    print_index(index);
+    print_figure(out, b"points", points);
+    print_figure(out, b"edges", counts.edges);
+    print_figure(out, b"rank", counts.rank);
+    print_index(out, index);
 }
 
 // Writes the line that says whether the subgroup is normal.
-fn print_normal(judged: Judged) {
+fn print_normal(out: &mut Output, judged: Judged) {
     match judged {
-        Judged::Refused(r) => prints::refused(r),
-        Judged::Normal => prints::text(b"normal yes\n"),
-        Judged::Other => prints::text(b"normal no\n"),
+        Judged::Refused(r) => prints::refused(out, r),
+        Judged::Normal => prints::text(out, b"normal yes\n"),
+        Judged::Other => prints::text(out, b"normal no\n"),
     }
 }
 
 // Writes the lines of the start graph and of the folds.
-fn print_folds(f: FoldFigures) {
-    prints::text(b"start");
-    prints::next(f.start.points as u64);
-    prints::next(f.start.edges as u64);
-    prints::text(b"\nfolds");
-    prints::next(f.merging);
-    prints::next(f.closing);
-    prints::text(b"\n");
+fn print_folds(out: &mut Output, f: FoldFigures) {
+    prints::text(out, b"start");
+    prints::next(out, f.start.points as u64);
+    prints::next(out, f.start.edges as u64);
+    prints::text(out, b"\nfolds");
+    prints::next(out, f.merging);
+    prints::next(out, f.closing);
+    prints::text(out, b"\n");
 }
 
 // Writes the line of a basis word that has its line end.
-fn print_word(word: &[u8]) {
-    prints::text(b"basis ");
-    prints::text(word);
+fn print_word(out: &mut Output, word: &[u8]) {
+    prints::text(out, b"basis ");
+    prints::text(out, word);
 }
 
 // Writes a line for each word of a basis.
-fn print_words(text: &[u8]) {
+fn print_words(out: &mut Output, text: &[u8]) {
     let mut at: usize = 0;
     while at < text.len() {
         let next = lists::next_start(text, at);
-        print_word(&text[at..next]);
+        print_word(out, &text[at..next]);
         at = next;
     }
 }
 
 // Writes the lines of the basis, or its refusal in place of them.
-fn print_basis(s: Subgroup, table: &[u32], work: &mut [u32], basis: &mut [u8])
+fn print_basis(out: &mut Output, s: Subgroup, table: &[u32], work: &mut [u32], basis: &mut [u8])
     ensures run { BasisRun s.n s.points table.now work.old basis.old work.new basis.new }
 {
     match bases::basis(s, table, work, basis) {
-        BasisAnswer::Refused(r) => prints::refused(r),
+        BasisAnswer::Refused(r) => prints::refused(out, r),
         BasisAnswer::Written { words: _, bytes } => {
             let size = bytes as usize;
-            print_words(&basis[..size]);
+            print_words(out, &basis[..size]);
         }
     }
 }
 
 // Writes the numbers of an expression.
-fn print_numbers(numbers: &[i32]) {
+fn print_numbers(out: &mut Output, numbers: &[i32]) {
     let mut i: usize = 0;
     while i < numbers.len() {
-        prints::signed(numbers[i]);
+        prints::signed(out, numbers[i]);
         i += 1;
     }
 }
 
 // Writes the line of a query that is no member.
-fn print_outside(query: &[u8]) {
-    prints::text(query);
-    prints::text(b" no\n");
+fn print_outside(out: &mut Output, query: &[u8]) {
+    prints::text(out, query);
+    prints::text(out, b" no\n");
 }
 
 // Writes the line of a member: the word as written, and its expression.
-fn print_inside(query: &[u8], numbers: &[i32]) {
-    prints::text(query);
-    prints::text(b" yes");
-    print_numbers(numbers);
-    prints::text(b"\n");
+fn print_inside(out: &mut Output, query: &[u8], numbers: &[i32]) {
+    prints::text(out, query);
+    prints::text(out, b" yes");
+    print_numbers(out, numbers);
+    prints::text(out, b"\n");
 }
 
 // Writes the line of a query, or its refusal in place of it.
-fn print_query(s: Subgroup, table: &[u32], query: &[u8], work: &mut [u32], expression: &mut [i32])
+fn print_query(
+    out: &mut Output,
+    s: Subgroup,
+    table: &[u32],
+    query: &[u8],
+    work: &mut [u32],
+    expression: &mut [i32],
+)
     ensures cells { lent work.new expression.new ≡ after_query s.n s.points table.now query.now (lent work.old expression.old) }
 {
     match expressions::express(s, table, query, work, expression) {
-        Expressed::Refused(r) => prints::refused(r),
-        Expressed::Outside => print_outside(query),
+        Expressed::Refused(r) => prints::refused(out, r),
+        Expressed::Outside => print_outside(out, query),
         Expressed::Inside(count) => {
             let size = count as usize;
-            print_inside(query, &expression[..size]);
+            print_inside(out, query, &expression[..size]);
         }
     }
 }
 
 // Writes the lines of the queries that stand in the input from `from` on.
 fn print_queries(
+    out: &mut Output,
     s: Subgroup,
     table: &[u32],
     input: &[u8],
@@ -140,7 +152,7 @@ fn print_queries(
             }
             Query::Asked { start, size, next } => {
                 let end = start + size;
-                print_query(s, table, &input[start..end], work, expression);
+                print_query(out, s, table, &input[start..end], work, expression);
                 at = next;
             }
         }
@@ -149,6 +161,7 @@ fn print_queries(
 
 // Writes what is said of a list, or its refusal.
 fn print_list(
+    out: &mut Output,
     n: u64,
     input: &[u8],
     list: usize,
@@ -162,21 +175,22 @@ fn print_list(
     ensures done { ListDone n (take list input.now) (walked_from (length input.now) input.now queries) (buffers_of basis.old table.old work.old expression.old) (buffers_of basis.new table.new work.new expression.new) }
 {
     match folds::fold(n, &input[..list], table, work) {
-        Folded::Refused(r) => prints::refused(r),
+        Folded::Refused(r) => prints::refused(out, r),
         Folded::Made(f) => {
             let points = f.points;
             let s = Subgroup { n, points };
-            print_counts(points, f.counts);
-            print_normal(normals::normal(s, table, work));
-            print_folds(f);
-            print_basis(s, table, work, basis);
-            print_queries(s, table, input, queries, work, expression);
+            print_counts(out, points, f.counts);
+            print_normal(out, normals::normal(s, table, work));
+            print_folds(out, f);
+            print_basis(out, s, table, work, basis);
+            print_queries(out, s, table, input, queries, work, expression);
         }
     }
 }
 
 // Writes what is said of an input.
 fn print_input(
+    out: &mut Output,
     input: &mut [u8],
     basis: &mut [u8],
     table: &mut [u32],
@@ -186,34 +200,38 @@ fn print_input(
     ensures done { InputDone input.old (buffers_of basis.old table.old work.old expression.old) input.new (buffers_of basis.new table.new work.new expression.new) }
 {
     match inputs::parse(input) {
-        Parsed::BadInput => prints::text(b"bad input\n"),
-        Parsed::Refused(r) => prints::refused(r),
+        Parsed::BadInput => prints::text(out, b"bad input\n"),
+        Parsed::Refused(r) => prints::refused(out, r),
         Parsed::Accepted { n, list, queries } => print_list(
-            n, input, list, queries, basis, table, work, expression,
+            out, n, input, list, queries, basis, table, work, expression,
         ),
     }
 }
 
-fn main() {
+fn main(rt: HostRuntime) -> io::Result<()> {
+    let mut from = rt.stdin();
+    let mut out = Output::new(rt.stdout());
     let mut input = [0u8; 65536];
     let mut basis = [0u8; 65536];
     let mut table = [0u32; 16384];
     let mut work = [0u32; 16384];
     let mut expression = [0i32; 16384];
-    let got = io::read_full(0, &mut input);
+    let got = reads::read_full(&mut from, &mut input)?;
     if 65536 <= got {
         // One byte more tells whether the input goes on.
         let mut more = [0u8; 1];
-        if 0 < io::read_full(0, &mut more) {
-            prints::text(b"bad input\n");
-            return;
+        if 0 < reads::read_full(&mut from, &mut more)? {
+            prints::text(&mut out, b"bad input\n");
+            return out.finish();
         }
     }
     print_input(
+        &mut out,
         &mut input[..got],
         &mut basis,
         &mut table,
         &mut work,
         &mut expression,
     );
+    out.finish()
 }
