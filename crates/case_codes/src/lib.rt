@@ -1,4 +1,6 @@
 // How stored cases are coded: a byte for a number or a cell, with codes for those beyond a byte.
+#![tactic(auto)]
+
 ghost use Rattle.std.specs.Prelude.{◌≡◌, ◌≤◌, length};
 ghost use Rattle.case_codes.specs.Codes.{number_of, cell_of, cells_of};
 

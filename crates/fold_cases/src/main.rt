@@ -2,42 +2,45 @@
 // A case is twenty bytes, little-endian numbers: n (eight), the bytes of the list, the cells of table and work (four
 // each); then the list. The lent cells hold 777 before. A line is a refusal, or points, edges, rank, index, start points,
 // start edges, merging and closing folds; then the cells of a table of at most 64; then the check numbers of both.
+#![tactic(auto)]
+
 ghost use Rattle.std.specs.Prelude.{◌≡◌, ◌+◌, ◌≤◌, ◌<◌, length};
 ghost use Rattle.fold_cases.specs.Cases.{four_of, case_of, check_of, FoldRun, CaseRun};
 
 use folds::{FoldFigures, Folded};
-use libc::STDOUT_FILENO;
+use prints::Output;
+use std::io;
 use tables::Index;
 
 // Writes the index of a subgroup, with a space before it.
-fn print_index(index: Index) {
+fn print_index(out: &mut Output, index: Index) {
     match index {
-        Index::Finite(k) => prints::next(k),
+        Index::Finite(k) => prints::next(out, k),
         Index::Infinite => {
-            io::write_all(STDOUT_FILENO, b" infinite");
+            prints::text(out, b" infinite");
         }
     }
 }
 
 // Writes the figures of a fold.
-fn print_figures(f: FoldFigures) {
+fn print_figures(out: &mut Output, f: FoldFigures) {
     let counts = f.counts;
     let index = counts.index;
-    prints::number(f.points);
-    prints::next(counts.edges);
-    prints::next(counts.rank);
-    print_index(index);
-    prints::next(f.start.points as u64);
-    prints::next(f.start.edges as u64);
-    prints::next(f.merging);
-    prints::next(f.closing);
+    prints::number(out, f.points);
+    prints::next(out, counts.edges);
+    prints::next(out, counts.rank);
+    print_index(out, index);
+    prints::next(out, f.start.points as u64);
+    prints::next(out, f.start.edges as u64);
+    prints::next(out, f.merging);
+    prints::next(out, f.closing);
 }
 
 // Writes what folding says.
-fn print_outcome(o: Folded) {
+fn print_outcome(out: &mut Output, o: Folded) {
     match o {
-        Folded::Refused(r) => prints::refusal(r),
-        Folded::Made(f) => print_figures(f),
+        Folded::Refused(r) => prints::refusal(out, r),
+        Folded::Made(f) => print_figures(out, f),
     }
 }
 
@@ -55,22 +58,22 @@ fn check_of(cells: &[u32]) -> u64
 }
 
 // Writes the line of a list: what is said, the cells of a small table, and the check numbers.
-fn print_line(o: Folded, table: &[u32], work: &[u32]) {
-    print_outcome(o);
+fn print_line(out: &mut Output, o: Folded, table: &[u32], work: &[u32]) {
+    print_outcome(out, o);
     if table.len() <= 64 {
-        prints::cells(table);
+        prints::cells(out, table);
     }
-    prints::next(check_of(table));
-    prints::next(check_of(work));
-    io::write_all(STDOUT_FILENO, b"\n");
+    prints::next(out, check_of(table));
+    prints::next(out, check_of(work));
+    prints::text(out, b"\n");
 }
 
 // Folds a list, and writes its line.
-fn run_fold(n: u64, list: &[u8], table: &mut [u32], work: &mut [u32])
+fn run_fold(out: &mut Output, n: u64, list: &[u8], table: &mut [u32], work: &mut [u32])
     ensures run { FoldRun n list.now table.old work.old table.new work.new }
 {
     let o = folds::fold(n, list, table, work);
-    print_line(o, table, work);
+    print_line(out, o, table, work);
 }
 
 // The numbers of a case.
@@ -83,7 +86,7 @@ struct Case {
 }
 
 // One case. A case that does not fit into the cells is passed over.
-fn run_case(c: Case, list: &[u8], table: &mut [u32], work: &mut [u32])
+fn run_case(out: &mut Output, c: Case, list: &[u8], table: &mut [u32], work: &mut [u32])
     ensures run { CaseRun c list.now table.old work.old table.new work.new }
 {
     let count = c.count;
@@ -96,7 +99,7 @@ fn run_case(c: Case, list: &[u8], table: &mut [u32], work: &mut [u32])
     }
     cells::fill(table, count, 777);
     cells::fill(work, size, 777);
-    run_fold(c.n, list, &mut table[..count], &mut work[..size]);
+    run_fold(out, c.n, list, &mut table[..count], &mut work[..size]);
 }
 
 // The number of four bytes of a head, the least first.
@@ -124,25 +127,28 @@ fn case_of(head: &[u8]) -> Case
     }
 }
 
-fn main() {
+fn main(rt: HostRuntime) -> io::Result<()> {
+    let mut from = rt.stdin();
+    let mut out = Output::new(rt.stdout());
     let mut head = [0u8; 20];
     let mut list = [0u8; 65600];
     let mut table = [0u32; 262144];
     let mut work = [0u32; 530000];
     let mut i: usize = 0;
     while i < 65536 {
-        if io::read_full(0, &mut head) < 20 {
-            return;
+        if reads::read_full(&mut from, &mut head)? < 20 {
+            return out.finish();
         }
         let c = case_of(&head);
         let bytes = c.bytes;
         if 65600 < bytes {
-            return;
+            return out.finish();
         }
-        if io::read_full(0, &mut list[..bytes]) < bytes {
-            return;
+        if reads::read_full(&mut from, &mut list[..bytes])? < bytes {
+            return out.finish();
         }
-        run_case(c, &list[..bytes], &mut table, &mut work);
+        run_case(&mut out, c, &list[..bytes], &mut table, &mut work);
         i += 1;
     }
+    out.finish()
 }

@@ -1,63 +1,66 @@
 // Runs stored cases through the functions on lent tables, and prints what each says, a line a case.
 // A case is sixteen bytes (op, n, V, cells, second n, V, cells, query, work, and seven that are passed over), then the
 // codes of its cells, of its second table's cells, and the bytes of its query.
+#![tactic(auto)]
+
 ghost use Rattle.std.specs.Prelude.{◌≡◌, ◌≤◌, length};
 ghost use Rattle.members.specs.Members.{cells_after};
 ghost use Rattle.table_cases.specs.Cases.{case_of, rest_of, asked_cells, CaseRun};
 
 use equals::Equality;
-use libc::STDOUT_FILENO;
 use members::Answer;
+use prints::Output;
+use std::io;
 use tables::{Checked, Figures, Index, Subgroup};
 
 // Writes the counts of a table.
-fn print_figures(f: Figures) {
-    io::write_all(STDOUT_FILENO, b"counts");
-    prints::next(f.edges);
-    prints::next(f.rank);
+fn print_figures(out: &mut Output, f: Figures) {
+    prints::text(out, b"counts");
+    prints::next(out, f.edges);
+    prints::next(out, f.rank);
     let index = f.index;
     match index {
-        Index::Finite(k) => prints::next(k),
+        Index::Finite(k) => prints::next(out, k),
         Index::Infinite => {
-            io::write_all(STDOUT_FILENO, b" infinite");
+            prints::text(out, b" infinite");
         }
     }
 }
 
 // A table is checked.
-fn run_check(s: Subgroup, table: &[u32]) {
+fn run_check(out: &mut Output, s: Subgroup, table: &[u32]) {
     match tables::check(s, table) {
-        Checked::Refused(r) => prints::refusal(r),
-        Checked::Counted(f) => print_figures(f),
+        Checked::Refused(r) => prints::refusal(out, r),
+        Checked::Counted(f) => print_figures(out, f),
     }
 }
 
 // A query is asked of a table; the work cells follow.
-fn run_member(s: Subgroup, table: &[u32], query: &[u8], work: &mut [u32])
+fn run_member(out: &mut Output, s: Subgroup, table: &[u32], query: &[u8], work: &mut [u32])
     ensures cells { work.new ≡ cells_after s.n s.points table.now query.now work.old }
 {
     match members::member(s, table, query, work) {
-        Answer::Refused(r) => prints::refusal(r),
+        Answer::Refused(r) => prints::refusal(out, r),
         Answer::Inside => {
-            io::write_all(STDOUT_FILENO, b"inside");
+            prints::text(out, b"inside");
         }
         Answer::Outside => {
-            io::write_all(STDOUT_FILENO, b"outside");
+            prints::text(out, b"outside");
         }
     }
-    io::write_all(STDOUT_FILENO, b" work");
-    prints::cells(work);
+    prints::text(out, b" work");
+    prints::cells(out, work);
 }
 
 // Two tables are compared.
-fn run_equal(a: Subgroup, first: &[u32], b: Subgroup, second: &[u32]) {
+fn run_equal(out: &mut Output, a: Subgroup, first: &[u32], b: Subgroup, second: &[u32]) {
     match equals::equal(a, first, b, second) {
-        Equality::Refused(r) => prints::refusal(r),
+        Equality::Refused(r) => prints::refusal(out, r),
         Equality::Yes => {
-            io::write_all(STDOUT_FILENO, b"equal");
+            prints::text(out, b"equal");
         }
         Equality::No => {
-            io::write_all(STDOUT_FILENO, b"different");
+            prints::text(out, b"different");
         }
     }
 }
@@ -74,19 +77,26 @@ struct Case {
 }
 
 // What is asked of the tables of a case, once its cells are there.
-fn ask(c: Case, first: &[u32], second: &[u32], query: &[u8], work: &mut [u32])
+fn ask(out: &mut Output, c: Case, first: &[u32], second: &[u32], query: &[u8], work: &mut [u32])
     ensures asked { work.new ≡ asked_cells c first.now query.now work.old }
 {
     let op = c.op;
     match op {
-        1 => run_check(c.a, first),
-        2 => run_member(c.a, first, query, work),
-        _ => run_equal(c.a, first, c.b, second),
+        1 => run_check(out, c.a, first),
+        2 => run_member(out, c.a, first, query, work),
+        _ => run_equal(out, c.a, first, c.b, second),
     }
 }
 
 // One case, from its numbers and what follows its head. A case that does not fit its own numbers is passed over.
-fn run_case(c: Case, body: &[u8], first: &mut [u32], second: &mut [u32], work: &mut [u32])
+fn run_case(
+    out: &mut Output,
+    c: Case,
+    body: &[u8],
+    first: &mut [u32],
+    second: &mut [u32],
+    work: &mut [u32],
+)
     ensures run { CaseRun c body.now first.old second.old work.old first.new second.new work.new }
 {
     let count = c.count;
@@ -109,13 +119,14 @@ fn run_case(c: Case, body: &[u8], first: &mut [u32], second: &mut [u32], work: &
     case_codes::cells(&body[count..end], second);
     cells::fill(work, size, 777);
     ask(
+        out,
         c,
         &first[..count],
         &second[..other],
         &body[end..],
         &mut work[..size],
     );
-    io::write_all(STDOUT_FILENO, b"\n");
+    prints::text(out, b"\n");
 }
 
 // The numbers of a case, from its head.
@@ -147,7 +158,9 @@ fn rest_of(head: &[u8]) -> usize
     case_codes::size(head[3]) + case_codes::size(head[6]) + case_codes::size(head[7])
 }
 
-fn main() {
+fn main(rt: HostRuntime) -> io::Result<()> {
+    let mut from = rt.stdin();
+    let mut out = Output::new(rt.stdout());
     let mut head = [0u8; 16];
     let mut body = [0u8; 192];
     let mut first = [0u32; 64];
@@ -155,18 +168,26 @@ fn main() {
     let mut work = [0u32; 64];
     let mut i: usize = 0;
     while i < 65536 {
-        if io::read_full(0, &mut head) < 16 {
-            return;
+        if reads::read_full(&mut from, &mut head)? < 16 {
+            return out.finish();
         }
         let rest = rest_of(&head);
         if 192 < rest {
-            return;
+            return out.finish();
         }
-        if io::read_full(0, &mut body[..rest]) < rest {
-            return;
+        if reads::read_full(&mut from, &mut body[..rest])? < rest {
+            return out.finish();
         }
         let c = case_of(&head);
-        run_case(c, &body[..rest], &mut first, &mut second, &mut work);
+        run_case(
+            &mut out,
+            c,
+            &body[..rest],
+            &mut first,
+            &mut second,
+            &mut work,
+        );
         i += 1;
     }
+    out.finish()
 }
