@@ -14,7 +14,7 @@ fn main() {
     println!("cargo:rerun-if-changed={}", library.display());
     if !library.is_file() {
         eprintln!("there is no {}", library.display());
-        eprintln!("build it in the repository with 'rt staticlib subgroups', or name its folder in SUBGROUPS_LIB");
+        eprintln!("build it in the repository with 'scripts/library', or name its folder in SUBGROUPS_LIB");
         exit(1);
     }
     println!("cargo:rustc-link-search=native={}", folder.display());
