@@ -1,2 +1,4 @@
 -- Laws of a refusal as code holds it.
-pub mod FoundLaws
+pub mod UnlessLaws
+pub mod StageLaws
+pub mod NumberLaws
