@@ -1,2 +1,2 @@
--- The turns of `fill`, and the laws of `filled`.
+-- The laws of `filled`.
 pub mod FillTurn

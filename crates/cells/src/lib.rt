@@ -1,17 +1,16 @@
-// Lent cells: filling a run of them with one value.
+// Lent cells: the absent mark, and filling a run of them with one value.
 #![tactic(auto)]
 
 ghost use Rattle.std.specs.Prelude.{◌≡◌, ◌≤◌, length};
 ghost use Rattle.cells.specs.Filled.{filled};
+
+// The mark of a table's cell that leads nowhere.
+pub const ABSENT: u32 = u32::MAX;
 
 // Puts `value` into the first `count` cells.
 pub fn fill(cells: &mut [u32], count: usize, value: u32)
     requires { count ≤ length cells.old }
     ensures filled { cells.new ≡ filled count value cells.old }
 {
-    let mut i: usize = 0;
-    while i < count {
-        cells[i] = value;
-        i += 1;
-    }
+    cells[..count].fill(value);
 }

@@ -1,8 +1,16 @@
-use Rattle.cells.proofs.FillTurn.{head_first, head_turn}
+-- `cells::fill` meets its contract: the filled part, and the cells behind it (`Filled`).
+-- Assumes nothing.
+use mathlib.Core.Path.{◌∙◌, ap}
+use Prim.Native.Nat.{◌≤◌}
+use lib.ListN.{drop, replicate, length-take}
+use native.Mathlib.Omega.{arith}
+use mathlib.Core.List.{◌++◌}
+use Rattle.cells.specs.Filled.{filled}
 use Rattle.cells.proofs.fill.Goals as goal
 
-pub loop-i-init : goal.loop-i-init
-loop-i-init c = head_first _ _ _ c.requires
-
-pub loop-i-preserved : goal.loop-i-preserved
-loop-i-preserved c = head_turn c.loop-i.invariant c.loop-i-test.true
+pub returns : goal.returns
+unfolding filled
+returns c =
+    let part = c.fill.ensures.after (λ y e. e) in
+    let count = length-take c.args.count c.args.cells.now in
+    record { filled = ap (λ front. front ++ drop c.args.count c.args.cells.now) (part ∙ ap (λ k. replicate k c.args.value) (count ∙ omega (arith, c.requires))) }
