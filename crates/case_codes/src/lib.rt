@@ -12,7 +12,7 @@ pub fn number(code: u8) -> u64
         253 => 258,
         254 => 1048578,
         255 => 4294967297,
-        _ => code as u64,
+        _ => u64::from(code),
     }
 }
 
@@ -20,7 +20,7 @@ pub fn number(code: u8) -> u64
 pub fn size(code: u8) -> usize
     ensures size { (result ≡ code) × (result ≤ 255) }
 {
-    code as usize
+    usize::from(code)
 }
 
 // A cell of a case.
@@ -30,7 +30,7 @@ pub fn cell(code: u8) -> u32
     match code {
         254 => 4294967294,
         255 => 4294967295,
-        _ => code as u32,
+        _ => u32::from(code),
     }
 }
 
@@ -39,9 +39,7 @@ pub fn cells(codes: &[u8], out: &mut [u32])
     requires { length codes.now ≤ length out.old }
     ensures cells { out.new ≡ cells_of codes.now out.old }
 {
-    let mut i: usize = 0;
-    while i < codes.len() {
-        out[i] = cell(codes[i]);
-        i += 1;
+    for (i, &code) in codes.iter().enumerate() {
+        out[i] = cell(code);
     }
 }

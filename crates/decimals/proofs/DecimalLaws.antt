@@ -2,17 +2,16 @@
 --   decimal_small, decimal_more : the digits of a number, by those of a tenth of it
 --   decimal_some                : there is a first digit
 --   decimal_fits                : 20 digits hold every number of 64 bits
---   decimal_made                : what `write_decimal` promises, from what its two functions do
 -- Assumes nothing.
 use mathlib.Core.Path.{◌≡◌, refl, ◌∙◌, ap}
 use mathlib.Core.Logic.{by_cases}
-use mathlib.Core.List.{List, [], ◌∷◌, ◌++◌}
+use mathlib.Core.List.{[], ◌∷◌, ◌++◌}
 use Prim.Native.Nat.{ℕ, zero, suc, ◌+◌, ◌/◌, ◌%◌, ◌^◌, ◌≤◌, ◌<◌}
 use native.Mathlib.Decide.{dec_lt}
 use native.Mathlib.Nat.{pow-suc}
 use native.Mathlib.Omega.{arith}
-use lib.ListN.{length, drop, length-append}
-use Rattle.decimals.specs.Decimal.{digit_bytes, decimal_of, Decimal}
+use lib.ListN.{length, length-append}
+use Rattle.decimals.specs.Decimal.{digit_bytes, decimal_of}
 
 -- room for more digits than the number has changes nothing
 enough : (d e x : ℕ) → x ≤ d → x ≤ e → digit_bytes d x ≡ digit_bytes e x
@@ -71,7 +70,3 @@ length_below (suc d) x h =
 
 pub decimal_fits : (x : ℕ) → x < 2 ^ 64 → length (decimal_of x) ≤ 20
 decimal_fits x h = length_below 19 x (omega arith)
-
--- the size and the cells, as the two functions promise them
-pub decimal_made : (x r : ℕ) (out after : List ℕ) → r ≡ length (decimal_of x) → after ≡ decimal_of x ++ drop r out → Decimal x out r after
-decimal_made x r out after e f = record { size = e; cells = f ∙ ap (λ k. decimal_of x ++ drop k out) e }

@@ -1,77 +1,62 @@
--- The turns of `write_digits` on plain values: the digits of `rest` are to come, those behind them are written.
---   head_first, head_turn, head_done : before the first turn, after a turn, after the last digit
---   head_low, head_some              : the places that are written lie in the cells
+-- The turns of `write_digits` on plain values: the first i digits are to come, those of `rest`; the ones behind them are written.
+--   left                             : the digits to come, none after the last
+--   head_first, head_turn, head_done : before the first turn, after a turn, after the last
 -- Assumes nothing.
 use mathlib.Core.Path.{◌≡◌, refl, sym, ◌∙◌, ap}
+use mathlib.Core.Logic.{by_cases}
 use mathlib.Core.List.{List, [], ◌∷◌, ◌++◌, append_assoc}
-use Prim.Native.Nat.{ℕ, suc, ◌+◌, ◌/◌, ◌%◌, ◌≤◌, ◌<◌}
+use Prim.Native.Nat.{ℕ, zero, suc, ◌+◌, ◌-◌, ◌/◌, ◌%◌, ◌≤◌, ◌<◌}
+use native.Mathlib.Decide.{dec_lt}
+use native.Mathlib.Numerals.{add-one, sub-one}
 use native.Mathlib.Omega.{arith}
-use lib.ListN.{length, drop, set, length-set}
-use lib.Seq.{drop-cons, drop-set-lt, get_or-set_same, set_split}
+use lib.ListN.{length, drop, set, length-append}
+use Rattle.std.proofs.lemmas.List.{drop-set}
 use Rattle.decimals.specs.Decimal.{decimal_of}
 use Rattle.decimals.proofs.DecimalLaws.{decimal_small, decimal_more, length_small, length_more, decimal_some}
 
--- a cell that is written stands in front of those behind it
-behind : (out : List ℕ) (k b : ℕ) → k < length out → drop k (set out k b) ≡ b ∷ drop (suc k) out
-behind out k b h =
-    drop-cons (set out k b) k 0 (rw length-set h)
-    ∙ ap (λ y. y ∷ drop (suc k) (set out k b)) (get_or-set_same out k b 0 h)
-    ∙ ap (λ l. b ∷ l) (drop-set-lt (suc k) out k b (omega arith))
+abbrev pub left : ℕ → ℕ → List ℕ
+left zero rest = []
+left (suc i) rest = decimal_of rest
 
--- i is one more than the digits written
+-- the last of the digits to come
+left_turn : (i rest : ℕ) → length (decimal_of rest) ≡ suc i → decimal_of rest ≡ left i (rest / 10) ++ ((48 + rest % 10) ∷ [])
+left_turn zero rest h = decimal_small rest small ∙ ap (λ k. (48 + k) ∷ []) last
+  where
+    small : rest < 10
+    small = by_cases (dec_lt rest 10) (λ s. s) (λ s. absurd (omega (arith, length_more rest (omega arith), decimal_some (rest / 10))))
+
+    last : rest ≡ rest % 10
+    last = omega (arith, small)
+left_turn (suc i) rest h =
+    by_cases (dec_lt rest 10) (λ s. absurd (omega (arith, length_small rest s))) (λ s. decimal_more rest (omega arith))
+
 pub record Head (x size : ℕ) (old out : List ℕ) (rest i : ℕ) : Type 0 where
-  pub begun : 0 < i
-  pub place : i + length (decimal_of rest) ≡ size + 1
-  pub room : size ≤ length old
-  pub same : length out ≡ length old
-  pub cells : decimal_of rest ++ drop (length (decimal_of rest)) out ≡ decimal_of x ++ drop size old
+  pub sized : length (left i rest) ≡ i
+  pub cells : left i rest ++ drop i out ≡ decimal_of x ++ drop size old
 
-pub head_first : (x size i : ℕ) (out : List ℕ) → size ≡ length (decimal_of x) → size ≤ length out → i ≡ 1 → Head x size out out x i
-head_first x size i out e h f =
-    record { begun = omega arith; place = omega arith; room = h; same = refl; cells = ap (λ k. decimal_of x ++ drop k out) (sym e) }
+pub head_first : (x size : ℕ) (out : List ℕ) → size ≡ length (decimal_of x) → Head x size out out x size
+head_first x zero out e = absurd (omega (arith, decimal_some x))
+head_first x (suc i) out e = record { sized = sym e; cells = refl }
 
--- where digits are left before it, the next digit has a place behind the first cell
-pub head_low : {x size : ℕ} {old out : List ℕ} {rest i : ℕ} → Head x size old out rest i → 9 < rest → i < size
-head_low {rest = rest} h k = omega (arith, length_more rest k, decimal_some (rest / 10))
-
--- there is a first cell
-pub head_some : {x size : ℕ} {old out : List ℕ} {rest i : ℕ} → Head x size old out rest i → 0 < length out
-head_some {rest = rest} h = omega (arith, decimal_some rest)
-
-pub head_turn : {x size : ℕ} {old out : List ℕ} {rest i : ℕ} (at b : ℕ) → Head x size old out rest i → 9 < rest → at + i ≡ size → b ≡ 48 + rest % 10 → Head x size old (set out at b) (rest / 10) (i + 1)
-head_turn {x} {size} {old} {out} {rest} {i} at b h k p e =
+pub head_turn : {x size : ℕ} {old out : List ℕ} {rest i : ℕ} → Head x size old out rest i → 0 < i → i ≤ length out → Head x size old (set out (i - 1) (48 + rest % 10)) (rest / 10) (i - 1)
+head_turn {i = zero} h k f = absurd (omega arith)
+head_turn {out = out} {rest = rest} {i = suc i} h k f =
+    simp sub-one
     record {
-      begun = omega arith;
-      place = omega (arith, length_more rest k);
-      room = h.room;
-      same = simp length-set h.same;
-      cells = ap (λ j. front ++ drop j (set out at b)) (sym is) ∙ ap (λ l. front ++ l) (behind out at b inside) ∙ grouped ∙ h.cells;
+      sized = omega (arith, ap length (left_turn i rest h.sized), length-append front (b ∷ []), h.sized);
+      cells =
+          ap (λ l. front ++ l) (drop-set out i b f)
+          ∙ sym (append_assoc front (b ∷ []) (drop (i + 1) out))
+          ∙ ap (λ l. l ++ drop (i + 1) out) (sym (left_turn i rest h.sized))
+          ∙ rw add-one h.cells;
     }
   where
+    b : ℕ
+    b = 48 + rest % 10
+
     front : List ℕ
-    front = decimal_of (rest / 10)
+    front = left i (rest / 10)
 
-    is : at ≡ length front
-    is = omega (arith, length_more rest k, h.place)
-
-    inside : at < length out
-    inside = omega (arith, length_more rest k, h.place, h.begun, h.room, h.same)
-
-    size_now : suc at ≡ length (decimal_of rest)
-    size_now = omega (arith, length_more rest k, is)
-
-    grouped : front ++ (b ∷ drop (suc at) out) ≡ decimal_of rest ++ drop (length (decimal_of rest)) out
-    grouped =
-        sym (append_assoc front (b ∷ []) (drop (suc at) out))
-        ∙ ap (λ y. (front ++ (y ∷ [])) ++ drop (suc at) out) e
-        ∙ ap (λ l. l ++ drop (suc at) out) (sym (decimal_more rest k))
-        ∙ ap (λ j. decimal_of rest ++ drop j out) size_now
-
--- the first digit is the last that is written
-pub head_done : {x size : ℕ} {old out : List ℕ} {rest i : ℕ} (b : ℕ) → Head x size old out rest i → rest < 10 → b ≡ 48 + rest → set out 0 b ≡ decimal_of x ++ drop size old
-head_done {out = out} {rest = rest} b h k e =
-    set_split out 0 b (head_some h)
-    ∙ ap (λ y. y ∷ drop 1 out) e
-    ∙ ap (λ d. d ++ drop 1 out) (sym (decimal_small rest k))
-    ∙ ap (λ j. decimal_of rest ++ drop j out) (sym (length_small rest k))
-    ∙ h.cells
+pub head_done : {x size : ℕ} {old out : List ℕ} {rest i : ℕ} → Head x size old out rest i → i ≤ 0 → out ≡ decimal_of x ++ drop size old
+head_done {i = zero} h k = h.cells
+head_done {i = suc i} h k = absurd (omega arith)

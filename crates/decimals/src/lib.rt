@@ -23,14 +23,10 @@ fn write_digits(x: u64, size: usize, out: &mut [u8])
     ensures cells { out.new ≡ decimal_of x ++ drop size out.old }
 {
     let mut rest = x;
-    let mut i: usize = 1;
-    while 9 < rest {
-        let at = size - i;
-        out[at] = 48 + (rest % 10) as u8;
+    for i in (0..size).rev() {
+        out[i] = b'0' + (rest % 10) as u8;
         rest = rest / 10;
-        i += 1;
     }
-    out[0] = 48 + rest as u8;
 }
 
 // Writes x in decimal into the first cells of `out`, of which 20 hold every x, and answers the number of its digits.
