@@ -1,47 +1,39 @@
 -- The counts, the walk and the shorter list on plain values.
 -- Assumes nothing.
 use mathlib.Core.Path.{◌≡◌, refl, sym, ◌∙◌, ap, subst}
-use mathlib.Core.Bool.{Bool, true, false, cond}
-use mathlib.Core.Option.{Option, none, some}
+use mathlib.Core.Bool.{Bool, true, false, not, cond}
 use mathlib.Core.List.{List, []}
 use Prim.Native.Nat.{ℕ, ◌+◌, ◌-◌, ◌≤◌, ◌<◌}
-use native.Mathlib.Numerals.{add-one}
+use native.Mathlib.Numerals.{one-add}
 use native.Mathlib.Omega.{arith}
-use lib.ListN.{length, get_or, take, drop, length-drop}
+use lib.Dec.{eqb}
+use lib.ListN.{length, take, drop, length-drop}
 use lib.Seq.{take_all}
 use borrow.Author.Tests.{le-leb, lt-leb}
 use denote.Ref.{Bor}
+use Rattle.std.specs.List.{filter, count_by}
+use Rattle.std.proofs.lemmas.List.Recursion.{is_count_by}
+use Rattle.std.proofs.lemmas.List.Sums.{length-filter}
+use Rattle.theory.proofs.WordLaws.{by_test}
 use Rattle.theory.specs.Letters.{line_end, letters_in, word_length}
-use Rattle.theory.specs.Refusals.{Refusal, is_unended, text_refusal}
-use Rattle.theory.proofs.TextLaws.{letters_pass, letters_stop, letters_end, letters_le, words_count, word_length_le}
-use Rattle.lists.specs.Scans.{scanned_as}
+use Rattle.theory.specs.Refusals.{is_unended}
+use Rattle.theory.proofs.TextLaws.{letters_le, words_count, word_length_le}
 use Rattle.lists.specs.Counts.{CountsOf, next_start}
-use Rattle.lists.specs.Shorter.{is_none, is_good, Which, the_first, the_second, neither, which_of, Hands, HandedBack}
-use Rattle.lists.specs.declared.Scanned.{Scanned}
-use Rattle.lists.specs.declared.Scanned.TheVariants.{Fine, Refused}
+use Rattle.lists.specs.Shorter.{is_good, which_of, Hands, HandedBack}
+use Rattle.lists.specs.declared.Which.{Which}
+use Rattle.lists.specs.declared.Which.TheVariants.{First, Second, Neither}
 
 -- ── Letters ──
 
--- of i bytes `found` are letters
-pub record Head (text : List ℕ) (found i : ℕ) : Type 0 where
-  pub inside : i ≤ length text
-  pub low : found ≤ i
-  pub counted : found + letters_in (drop i text) ≡ letters_in text
+-- the letters are the bytes that are no line end
+letters_count : (text : List ℕ) → letters_in text ≡ count_by (λ b. not (eqb b line_end)) text
+unfolding letters_in
+letters_count =
+    is_count_by letters_in (λ b. not (eqb b line_end)) refl
+    (λ b bs. by_test (eqb b line_end) (λ t. rw t) (λ t. rw t (sym (one-add (letters_in bs)))))
 
-module _ {text : List ℕ} where
-  pub head_first : Head text 0 0
-  head_first = record { inside = omega arith; low = omega arith; counted = omega arith }
-
-  pub head_letter : {found i : ℕ} → Head text found i → i < length text → (get_or text i 0 ≡ line_end → ⊥) → Head text (found + 1) (i + 1)
-  head_letter {found} {i} h l e =
-      record { inside = omega arith; low = omega (arith, h.low); counted = rw (add-one i) (omega (arith, h.counted, letters_pass text i l e)) }
-
-  pub head_end_lem : {found i : ℕ} → Head text found i → i < length text → get_or text i 0 ≡ line_end → Head text found (i + 1)
-  head_end_lem {found} {i} h l e =
-      record { inside = omega arith; low = omega (arith, h.low); counted = rw (add-one i) (omega (arith, h.counted, letters_stop text i l e)) }
-
-  pub head_done : {found i : ℕ} → Head text found i → length text ≤ i → found ≡ letters_in text
-  head_done {found} {i} h l = omega (arith, h.counted, letters_end text i l)
+pub letters_kept : (text : List ℕ) → length (filter (λ b. not (eqb b line_end)) text) ≡ letters_in text
+letters_kept text = length-filter (λ b. not (eqb b line_end)) text ∙ sym (letters_count text)
 
 -- ── Words ──
 
@@ -76,23 +68,6 @@ next_further text at next h e = omega arith
 
 -- ── The shorter list ──
 
-module _ (n : ℕ) (list : List ℕ) {s : Scanned} where
-  pub good_fine : s ≡ scanned_as (text_refusal n true list) → s ≡ Fine → true ≡ is_good n list
-  unfolding is_good
-  good_fine a b = go (text_refusal n true list) (sym b ∙ a)
-    where
-      go : (o : Option Refusal) → Fine ≡ scanned_as o → true ≡ is_none o
-      go none p = refl
-      go (some r) p = cc
-
-  pub good_refused : {r : _} → s ≡ scanned_as (text_refusal n true list) → s ≡ Refused r → false ≡ is_good n list
-  unfolding is_good
-  good_refused {r} a b = go (text_refusal n true list) (sym b ∙ a)
-    where
-      go : (o : Option Refusal) → Refused r ≡ scanned_as o → false ≡ is_none o
-      go none p = cc
-      go (some f) p = refl
-
 module _ (n : ℕ) (a b : Bor (List ℕ)) where
   -- what is handed back, once it is known which
   handed : (w : Which) (r : Bor (List ℕ)) → which_of n a.now b.now ≡ w → Hands w a b r → HandedBack n a b r
@@ -100,20 +75,20 @@ module _ (n : ℕ) (a b : Bor (List ℕ)) where
 
   pub first_shorter : {f s : Bool} {k l : ℕ} → f ≡ is_good n a.now → f ≡ true → s ≡ is_good n b.now → s ≡ true → k ≡ letters_in a.now → l ≡ letters_in b.now → k ≤ l → HandedBack n a b a
   unfolding which_of
-  first_shorter f t s u k l h = handed the_first a (rw (sym f ∙ t, sym s ∙ u, le-leb (letters_in a.now) (letters_in b.now) (omega (arith, k, l, h)))) refl
+  first_shorter f t s u k l h = handed First a (rw (sym f ∙ t, sym s ∙ u, le-leb (letters_in a.now) (letters_in b.now) (omega (arith, k, l, h)))) refl
 
   pub second_shorter : {f s : Bool} {k l : ℕ} → f ≡ is_good n a.now → f ≡ true → s ≡ is_good n b.now → s ≡ true → k ≡ letters_in a.now → l ≡ letters_in b.now → l < k → HandedBack n a b b
   unfolding which_of
-  second_shorter f t s u k l h = handed the_second b (rw (sym f ∙ t, sym s ∙ u, lt-leb (letters_in a.now) (letters_in b.now) (omega (arith, k, l, h)))) refl
+  second_shorter f t s u k l h = handed Second b (rw (sym f ∙ t, sym s ∙ u, lt-leb (letters_in a.now) (letters_in b.now) (omega (arith, k, l, h)))) refl
 
   pub first_good : {f s : Bool} → f ≡ is_good n a.now → f ≡ true → s ≡ is_good n b.now → s ≡ false → HandedBack n a b a
   unfolding which_of
-  first_good f t s u = handed the_first a (rw (sym f ∙ t, sym s ∙ u)) refl
+  first_good f t s u = handed First a (rw (sym f ∙ t, sym s ∙ u)) refl
 
   pub second_good : {f s : Bool} → f ≡ is_good n a.now → f ≡ false → s ≡ is_good n b.now → s ≡ true → HandedBack n a b b
   unfolding which_of
-  second_good f t s u = handed the_second b (rw (sym f ∙ t, sym s ∙ u)) refl
+  second_good f t s u = handed Second b (rw (sym f ∙ t, sym s ∙ u)) refl
 
   pub none_good : {f s : Bool} (r : Bor (List ℕ)) → f ≡ is_good n a.now → f ≡ false → s ≡ is_good n b.now → s ≡ false → r.ref_ptr ≡ a.ref_ptr → r.now ≡ [] → HandedBack n a b r
   unfolding which_of
-  none_good r f t s u p e = handed neither r (rw (sym f ∙ t, sym s ∙ u)) (p, e)
+  none_good r f t s u p e = handed Neither r (rw (sym f ∙ t, sym s ∙ u)) (p, e)

@@ -13,10 +13,12 @@ use lib.ListN.{length}
 use denote.Ref.{Bor}
 use Rattle.theory.specs.Letters.{letter_bytes, place_in, letter_of, is_letter, letters_in}
 use Rattle.theory.specs.Refusals.{is_alphabet, byte_refusal, bytes_refusal, is_unended, text_refusal}
+use Rattle.std.specs.Prelude.{⊤}
+use Rattle.std.specs.declared.result.Result.TheVariants.{Ok, Err}
+use Rattle.refusals.specs.Given.{unless}
 use Rattle.refusals.specs.declared.Refusal.{Refusal}
-use Rattle.lists.specs.Scans.{scanned_as}
-use Rattle.lists.specs.Shorter.{the_first, the_second, is_good, which_of, Hands, HandedBack}
-use Rattle.lists.specs.declared.Scanned.TheVariants.{Fine, Refused}
+use Rattle.lists.specs.Shorter.{is_good, which_of, Hands, HandedBack}
+use Rattle.lists.specs.declared.Which.TheVariants.{First, Second}
 
 -- the list of the word aa, and of the word a
 abbrev aa : List ℕ
@@ -28,7 +30,7 @@ a1 = 97 ∷ 10 ∷ []
 pub first_always : (a b : Bor (List ℕ)) → a.now ≡ aa → b.now ≡ a1 → HandedBack 1 a b a → ⊥
 first_always a b p q h = longer (sym p ∙ ap (λ r. r.now) second ∙ q)
   where
-    which : which_of 1 a.now b.now ≡ the_second
+    which : which_of 1 a.now b.now ≡ Second
     which = rw (p, q) (unfold which_of is_good text_refusal is_alphabet bytes_refusal byte_refusal is_unended is_letter letter_of place_in letter_bytes letters_in in refl)
 
     second : a ≡ b
@@ -40,7 +42,7 @@ first_always a b p q h = longer (sym p ∙ ap (λ r. r.now) second ∙ q)
 pub nothing_always : (a b r : Bor (List ℕ)) → a.now ≡ a1 → b.now ≡ a1 → r.now ≡ [] → HandedBack 1 a b r → ⊥
 nothing_always a b r p q e h = shorter (sym e ∙ ap (λ s. s.now) first ∙ p)
   where
-    which : which_of 1 a.now b.now ≡ the_first
+    which : which_of 1 a.now b.now ≡ First
     which = rw (p, q) (unfold which_of is_good text_refusal is_alphabet bytes_refusal byte_refusal is_unended is_letter letter_of place_in letter_bytes letters_in in refl)
 
     first : r ≡ a
@@ -49,10 +51,10 @@ nothing_always a b r p q e h = shorter (sym e ∙ ap (λ s. s.now) first ∙ p)
     shorter : [] ≡ a1 → ⊥
     shorter f = let z : ◌≡◌ {A = ℕ} 0 2 = ap length f in omega arith
 
-pub refuse_all : (r : Refusal) → Refused r ≡ scanned_as (text_refusal 2 true []) → ⊥
+pub refuse_all : (r : Refusal) → Err r ≡ unless {A = ⊤} (text_refusal 2 true []) tt → ⊥
 unfolding text_refusal is_alphabet bytes_refusal is_unended
 refuse_all r e = let z : ◌≡◌ {A = ℕ} 0 1 = cc in omega arith
 
-pub refuse_nothing : Fine ≡ scanned_as (text_refusal 0 true []) → ⊥
+pub refuse_nothing : Ok tt ≡ unless {A = ⊤} (text_refusal 0 true []) tt → ⊥
 unfolding text_refusal is_alphabet
 refuse_nothing e = let z : ◌≡◌ {A = ℕ} 0 1 = cc in omega arith

@@ -8,6 +8,8 @@ use Rattle.std.proofs.Math.Option.{Option, none, some}
 use Rattle.std.specs.Borrow.{Bor}
 use Rattle.theory.specs.Letters.{letters_in}
 use Rattle.theory.specs.Refusals.{Refusal, text_refusal}
+use Rattle.lists.specs.declared.Which.{Which}
+use Rattle.lists.specs.declared.Which.TheVariants.{First, Second, Neither}
 
 abbrev pub is_none : Option Refusal → Bool
 is_none none = true
@@ -16,23 +18,18 @@ is_none (some r) = false
 unfoldable pub is_good : ℕ → List ℕ → Bool
 is_good n list = is_none (text_refusal n true list)
 
-pub data Which : Type 0 where
-  the_first : Which
-  the_second : Which
-  neither : Which
-
 -- the one with fewer letters, the first on a tie; a good one rather than a bad one
 unfoldable pub which_of : ℕ → List ℕ → List ℕ → Which
 which_of n a b =
     cond (is_good n a)
-    (cond (is_good n b) (cond (leb (letters_in a) (letters_in b)) the_first the_second) the_first)
-    (cond (is_good n b) the_second neither)
+    (cond (is_good n b) (cond (leb (letters_in a) (letters_in b)) First Second) First)
+    (cond (is_good n b) Second Neither)
 
 -- the reference that stands for the answer
 abbrev pub Hands : Which → Bor (List ℕ) → Bor (List ℕ) → Bor (List ℕ) → Type 0
-Hands the_first a b r = r ≡ a
-Hands the_second a b r = r ≡ b
-Hands neither a b r = (r.ref_ptr ≡ a.ref_ptr) × (r.now ≡ [])
+Hands First a b r = r ≡ a
+Hands Second a b r = r ≡ b
+Hands Neither a b r = (r.ref_ptr ≡ a.ref_ptr) × (r.now ≡ [])
 
 abbrev pub HandedBack : ℕ → Bor (List ℕ) → Bor (List ℕ) → Bor (List ℕ) → Type 0
 HandedBack n a b r = Hands (which_of n a.now b.now) a b r

@@ -3,119 +3,95 @@
 
 ghost use Rattle.std.specs.Prelude.{◌≡◌, ◌-◌, ◌≤◌, length};
 ghost use Rattle.theory.specs.Letters.{letters_in};
-ghost use Rattle.theory.specs.Refusals.{byte_refusal, is_unended, bytes_refusal, text_refusal};
-ghost use Rattle.lists.specs.Scans.{scanned_as, beyond_draws, last_of};
+ghost use Rattle.theory.specs.Refusals.{is_unended, bytes_refusal, text_refusal, refused_if};
+ghost use Rattle.refusals.specs.Given.{unless};
+ghost use Rattle.lists.specs.Scans.{beyond_draws, drawn, last_of};
 ghost use Rattle.lists.specs.Counts.{CountsOf, next_start, StartSizeOf};
-ghost use Rattle.lists.specs.Shorter.{is_good, HandedBack};
+ghost use Rattle.lists.specs.Shorter.{is_good, which_of, HandedBack};
 
 use letters::Class;
-use refusals::Refusal;
-
-// What scanning a text says.
-#[derive(Clone, Copy)]
-pub enum Scanned {
-    Fine,
-    Refused(Refusal),
-}
+use refusals::{Cause, Refusal, refuse};
 
 // The letters of a list as written, and its words.
-#[derive(Clone, Copy)]
+#[derive(Clone, Copy, Debug, PartialEq, Eq)]
 pub struct Counts {
     pub letters: usize,
     pub words: usize,
 }
 
-// What a letter of generator g draws in a text over n generators: 4 if it is beyond n.
-fn beyond(g: u64, n: u64) -> u64
-    ensures draws { result ≡ beyond_draws g n }
-{
-    if g <= n { 0 } else { 4 }
+// What is written as a list text: its words, and its bytes.
+#[derive(Clone, Copy, Debug, PartialEq, Eq)]
+pub struct TextSize {
+    pub words: u64,
+    pub bytes: u64,
 }
 
-// The number of the refusal that a byte draws, or 0.
-fn draws(n: u64, b: u8, lines: bool) -> u64
-    ensures draws { result ≡ byte_refusal n lines b }
+// What a letter of generator g draws in a text over n generators: refusal 4 if it is beyond n.
+fn beyond(g: u64, n: u64) -> Option<Cause>
+    ensures draws { result ≡ beyond_draws g n }
+{
+    if g <= n { None } else { Some(Cause::Beyond) }
+}
+
+// The cause of the refusal that a byte draws, if it draws one.
+fn draws(n: u64, b: u8, lines: bool) -> Option<Cause>
+    ensures draws { result ≡ drawn n lines b }
 {
     match letters::class_of(b) {
-        Class::Lower(g) => beyond(g as u64, n),
-        Class::Upper(g) => beyond(g as u64, n),
-        Class::LineEnd => { if lines { 0 } else { 3 } }
-        Class::Other => 3,
+        Class::Lower(g) => beyond(u64::from(g), n),
+        Class::Upper(g) => beyond(u64::from(g), n),
+        Class::LineEnd if lines => None,
+        Class::LineEnd => Some(Cause::NoLetter),
+        Class::Other => Some(Cause::NoLetter),
     }
 }
 
 // The first byte that draws a refusal.
-fn scan_bytes(n: u64, text: &[u8], lines: bool) -> Scanned
-    ensures first { result ≡ scanned_as (bytes_refusal n lines 0 text.now) }
+fn scan_bytes(n: u64, text: &[u8], lines: bool) -> Result<(), Refusal>
+    ensures first { result ≡ unless (bytes_refusal n lines 0 text.now) tt }
 {
-    let mut i: usize = 0;
-    while i < text.len() {
-        let k = draws(n, text[i], lines);
-        if k != 0 {
-            return Scanned::Refused(refusals::refuse(k, i as u64));
+    for (i, &b) in text.iter().enumerate() {
+        if let Some(cause) = draws(n, b, lines) {
+            return Err(refuse(cause, i as u64));
         }
-        i += 1;
     }
-    Scanned::Fine
+    Ok(())
 }
 
 // The text has bytes and does not end in a line end.
 fn unended(text: &[u8]) -> bool
     ensures unended { result ≡ is_unended text.now }
 {
-    let size = text.len();
-    if size == 0 {
-        return false;
-    }
-    let last = size - 1;
-    text[last] != 10
+    text.last().is_some_and(|&b| b != b'\n')
 }
 
 // What is left to refuse once all bytes are fine: a list that is not ended.
-fn scan_end(text: &[u8], lines: bool) -> Scanned
-    ensures last { result ≡ scanned_as (last_of lines text.now) }
+fn scan_end(text: &[u8], lines: bool) -> Result<(), Refusal>
+    ensures last { result ≡ unless (last_of lines text.now) tt }
 {
-    if lines {
-        if unended(text) {
-            return Scanned::Refused(refusals::refuse(5, text.len() as u64));
-        }
+    if lines && unended(text) {
+        return Err(refuse(Cause::Unended, text.len() as u64));
     }
-    Scanned::Fine
+    Ok(())
 }
 
 // The first refusal of a list (line ends allowed) or a query (none) over n generators.
-pub fn scan(n: u64, text: &[u8], lines: bool) -> Scanned
-    ensures first { result ≡ scanned_as (text_refusal n lines text.now) }
+pub fn scan(n: u64, text: &[u8], lines: bool) -> Result<(), Refusal>
+    ensures first { result ≡ unless (text_refusal n lines text.now) tt }
 {
-    if n < 1 {
-        return Scanned::Refused(refusals::refuse(1, 0));
-    }
-    if 26 < n {
-        return Scanned::Refused(refusals::refuse(1, 0));
-    }
+    refusals::check_alphabet(n)?;
     if 1048576 < text.len() {
-        return Scanned::Refused(refusals::refuse(2, 0));
+        return Err(refuse(Cause::Long, 0));
     }
-    match scan_bytes(n, text, lines) {
-        Scanned::Refused(r) => Scanned::Refused(r),
-        Scanned::Fine => scan_end(text, lines),
-    }
+    scan_bytes(n, text, lines)?;
+    scan_end(text, lines)
 }
 
 // L: the letters of a text as written.
 pub fn letters_in(text: &[u8]) -> usize
     ensures letters { result ≡ letters_in text.now }
 {
-    let mut found: usize = 0;
-    let mut i: usize = 0;
-    while i < text.len() {
-        let b = text[i];
-        i += 1;
-        if b != 10 {
-            found += 1;
-        }
-    }
-    found
+    text.iter().filter(|&&b| b != b'\n').count()
 }
 
 // The letters and the words of a list. What is no letter is a line end, and each ends a word.
@@ -124,17 +100,8 @@ pub fn count(text: &[u8]) -> Counts
 {
     let letters = letters_in(text);
     let ends = text.len() - letters;
-    if unended(text) {
-        Counts {
-            letters,
-            words: ends + 1,
-        }
-    } else {
-        Counts {
-            letters,
-            words: ends,
-        }
-    }
+    let words = if unended(text) { ends + 1 } else { ends };
+    Counts { letters, words }
 }
 
 // The walk from word to word: where the word after the one that starts at `at` starts.
@@ -154,34 +121,50 @@ pub fn next_start(text: &[u8], at: usize) -> usize
 pub fn is_good(n: u64, list: &[u8]) -> bool
     ensures good { result ≡ is_good n list.now }
 {
-    match scan(n, list, true) {
-        Scanned::Fine => true,
-        Scanned::Refused(_) => false,
-    }
+    scan(n, list, true).is_ok()
 }
 
-// Of two lists the one with fewer letters, as the caller's own slice: the first on a tie, a good one rather
-// than a bad one, and the empty start of the first where both are bad or n is.
-pub fn shorter<'a>(n: u64, first: &'a [u8], second: &'a [u8]) -> &'a [u8]
-    ensures shorter { HandedBack n first.entry second.entry result }
+// Which of two lists is handed back, if one is.
+#[derive(Clone, Copy, Debug, PartialEq, Eq)]
+pub enum Which {
+    First,
+    Second,
+    Neither,
+}
+
+// Of two lists the one with fewer letters: the first on a tie, a good one rather than a bad one, and neither where both
+// are bad or n is.
+pub fn which_of(n: u64, first: &[u8], second: &[u8]) -> Which
+    ensures which { result ≡ which_of n first.now second.now }
 {
     if is_good(n, first) {
         if is_good(n, second) {
             if letters_in(first) <= letters_in(second) {
-                return first;
+                return Which::First;
             }
-            return second;
+            return Which::Second;
         }
-        return first;
+        return Which::First;
     }
     if is_good(n, second) {
-        return second;
+        return Which::Second;
     }
-    &first[..0]
+    Which::Neither
+}
+
+// That list, as the caller's own slice; the empty start of the first where it is neither.
+pub fn shorter<'a>(n: u64, first: &'a [u8], second: &'a [u8]) -> &'a [u8]
+    ensures shorter { HandedBack n first.entry second.entry result }
+{
+    match which_of(n, first, second) {
+        Which::First => first,
+        Which::Second => second,
+        Which::Neither => &first[..0],
+    }
 }
 
 // The size of the start graph: its points and its edges.
-#[derive(Clone, Copy)]
+#[derive(Clone, Copy, Debug, PartialEq, Eq)]
 pub struct StartSize {
     pub points: usize,
     pub edges: usize,
@@ -191,7 +174,7 @@ pub struct StartSize {
 pub fn new_points(left: usize) -> usize
     ensures new { result ≡ left - 1 }
 {
-    if left == 0 { 0 } else { left - 1 }
+    left.saturating_sub(1)
 }
 
 // The size of a list's start graph. The words are reduced one after the other in the lent cells, a cell for each

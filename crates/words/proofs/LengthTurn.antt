@@ -1,32 +1,30 @@
--- The turns of `word_length` on plain values: `i` bytes are passed, and the word goes on behind them.
+-- A word's length is what std's `position` of the first line end says.
+--   word_place : the number of bytes before the first line end, or all of them
+--   word_found : so it is the place that is found, or the length where none is
 -- Assumes nothing.
-use mathlib.Core.Path.{◌≡◌, sym}
+use mathlib.Core.Path.{◌≡◌, refl, sym, ap}
+use mathlib.Core.Logic.{by_cases}
+use mathlib.Core.Bool.{cond}
 use mathlib.Core.List.{List}
-use Prim.Native.Nat.{ℕ, ◌+◌, ◌≤◌, ◌<◌}
-use native.Mathlib.Nat.{zero-add}
-use native.Mathlib.Numerals.{add-one}
+use Prim.Native.Nat.{ℕ, zero}
+use native.Mathlib.Decide.{dec_lt}
+use native.Mathlib.Numerals.{one-add}
 use native.Mathlib.Omega.{arith}
-use lib.ListN.{length, get_or, drop}
+use lib.Dec.{eqb}
+use lib.ListN.{length}
+use borrow.Author.Tests.{lt-ltb, le-ltb}
+use Rattle.std.specs.List.{position, position_or_len}
+use Rattle.std.specs.Option.{unwrap_or}
+use Rattle.std.proofs.lemmas.List.Recursion.{is_position_or_len}
 use Rattle.theory.specs.Letters.{line_end, word_length}
-use Rattle.theory.proofs.TextLaws.{word_pass, word_stop, word_end}
+use Rattle.theory.proofs.TextLaws.{word_length_le}
 
-pub record Head (part : List ℕ) (i : ℕ) : Type 0 where
-  pub inside : i ≤ length part
-  pub passed : word_length part ≡ i + word_length (drop i part)
+word_place : (part : List ℕ) → word_length part ≡ position_or_len (λ b. eqb b line_end) part
+unfolding word_length
+word_place = is_position_or_len word_length (λ b. eqb b line_end) refl (λ b bs. ap (λ k. cond (eqb b line_end) zero k) (sym (one-add (word_length bs))))
 
-pub head_first : (part : List ℕ) → Head part 0
-head_first part = record { inside = omega arith; passed = sym (zero-add (word_length part)) }
-
-pub head_turn : (part : List ℕ) (i : ℕ) → Head part i → i < length part → (get_or part i 0 ≡ line_end → ⊥) → Head part (i + 1)
-head_turn part i k h e =
-    record {
-      inside = omega arith;
-      passed = rw (add-one i) (omega (arith, k.passed, word_pass part i h e));
-    }
-
--- at a line end, and at the end of the part, i is the length
-pub head_stop : (part : List ℕ) (i : ℕ) → Head part i → i < length part → get_or part i 0 ≡ line_end → i ≡ word_length part
-head_stop part i k h e = omega (arith, k.passed, word_stop part i h e)
-
-pub head_end_lem : (part : List ℕ) (i : ℕ) → Head part i → length part ≤ i → i ≡ word_length part
-head_end_lem part i k h = omega (arith, k.passed, word_end part i h)
+pub word_found : (part : List ℕ) → unwrap_or (position (λ b. eqb b line_end) part) (length part) ≡ word_length part
+word_found part =
+    rw (← word_place part)
+    (by_cases (dec_lt (word_length part) (length part)) (λ h. rw (lt-ltb (word_length part) (length part) h))
+    (λ h. rw (le-ltb (word_length part) (length part) (omega arith)) (omega (arith, word_length_le part))))

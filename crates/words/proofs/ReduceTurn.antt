@@ -87,53 +87,35 @@ held_push w work y top r cells after room h p = by_test (is_gone cells top y) go
 
 -- ── The loop ──
 
--- i letters of the word are read
-pub record Head (part work : List ℕ) (read top i : ℕ) (cells : List ℕ) : Type 0 where
-  pub whole : read ≡ word_length part
-  pub room : word_length part ≤ length work
-  pub inside : i ≤ read
-  pub same : length cells ≡ length work
-  pub held : Held (take i (first_word part)) work top cells
+-- i letters of the word are read: the cells hold the reduction of these
+module _ (part work : List ℕ) {top i : ℕ} {cells : List ℕ} (h : Held (take i (first_word part)) work top cells) where
+  -- `top` never passes the letters read
+  pub head_low : i ≤ word_length part → top ≤ i
+  head_low l =
+      omega (arith, h.left, reduced_shorter (take i (first_word part)), length-take-le i (first_word part) (omega (arith, length-first_word part)))
 
--- `top` never passes the letters read
-pub head_low : (part work : List ℕ) (read top i : ℕ) (cells : List ℕ) → Head part work read top i cells → top ≤ i
-head_low part work read top i cells h =
-    omega (arith, h.held.left, reduced_shorter (take i (first_word part)), length-take-le i (first_word part) (omega (arith, length-first_word part, h.whole, h.inside)))
+  pub head_turn : {y r : ℕ} {after : List ℕ} → i < word_length part → word_length part ≤ length work → y ≡ letter_of (get_or part i 0) → Pushed cells top i y r after → Held (take (i + 1) (first_word part)) work r after
+  head_turn {y} {r} {after} l room e p =
+      subst (λ w. Held w work r after) (sym more) (held_push (take i w) work y top r cells after (omega (arith, size, room)) h (subst (λ j. Pushed cells top j y r after) (sym size) p))
+    where
+      w : List ℕ
+      w = first_word part
 
-pub head_first : (part work : List ℕ) (read : ℕ) → read ≡ word_length part → word_length part ≤ length work → Head part work read 0 0 work
-head_first part work read e h = record { whole = e; room = h; inside = omega arith; same = refl; held = held_first work }
+      fits : i < length w
+      fits = omega (arith, length-first_word part)
 
-pub head_turn : (part work : List ℕ) (read top i y r : ℕ) (cells after : List ℕ) → Head part work read top i cells → i < read → y ≡ letter_of (get_or part i 0) → length after ≡ length cells → Pushed cells top i y r after → Head part work read r (i + 1) after
-head_turn part work read top i y r cells after h l e k p =
-    record {
-      whole = h.whole;
-      room = h.room;
-      inside = omega arith;
-      same = k ∙ h.same;
-      held = subst (λ w. Held w work r after) (sym more) (held_push (take i w) work y top r cells after (omega (arith, size, h.room, h.whole)) h.held (subst (λ j. Pushed cells top j y r after) (sym size) p));
-    }
-  where
-    w : List ℕ
-    w = first_word part
+      size : length (take i w) ≡ i
+      size = length-take-le i w (omega (arith, fits))
 
-    fits : i < length w
-    fits = omega (arith, length-first_word part, h.whole, l)
+      more : take (i + 1) w ≡ take i w ++ (y ∷ [])
+      more = ap (λ j. take j w) (add-one i) ∙ take-suc w i 0 fits ∙ ap (λ x. take i w ++ (x ∷ [])) (first_word_at part i l ∙ sym e)
 
-    size : length (take i w) ≡ i
-    size = length-take-le i w (omega (arith, fits))
-
-    more : take (i + 1) w ≡ take i w ++ (y ∷ [])
-    more = ap (λ j. take j w) (add-one i) ∙ take-suc w i 0 fits ∙ ap (λ x. take i w ++ (x ∷ [])) (first_word_at part i (omega (arith, h.whole)) ∙ sym e)
-
-pub head_done : (part work : List ℕ) (read top i : ℕ) (cells : List ℕ) → Head part work read top i cells → read ≤ i → ReducedInto part work (record { read = read; left = top }) cells
-head_done part work read top i cells h l =
-    record { read = h.whole; left = h.held.left ∙ ap (λ w. length (reduced w)) all; cells = h.held.after ∙ ap (λ w. reduced_cells w work) all }
-  where
-    all : take i (first_word part) ≡ first_word part
-    all = ap (λ k. take k (first_word part)) ends ∙ take-length (first_word part)
-      where
-        ends : i ≡ length (first_word part)
-        ends = omega (arith, h.inside, l, h.whole, length-first_word part)
+  pub head_done : {read : ℕ} → read ≡ word_length part → i ≡ read → ReducedInto part work (record { read = read; left = top }) cells
+  head_done {read} e l =
+      record { read = e; left = h.left ∙ ap (λ w. length (reduced w)) all; cells = h.after ∙ ap (λ w. reduced_cells w work) all }
+    where
+      all : take i (first_word part) ≡ first_word part
+      all = ap (λ k. take k (first_word part)) (l ∙ e ∙ sym (length-first_word part)) ∙ take-length (first_word part)
 
 -- ── For callers ──
 

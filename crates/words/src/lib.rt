@@ -16,14 +16,7 @@ pub struct Reduced {
 pub fn word_length(part: &[u8]) -> usize
     ensures length { result ≡ word_length part.now }
 {
-    let mut i = 0;
-    while i < part.len() {
-        if part[i] == 10 {
-            return i;
-        }
-        i += 1;
-    }
-    i
+    part.iter().position(|&b| b == b'\n').unwrap_or(part.len())
 }
 
 // Letter y, the i-th that is read, meets the reduced word in the first `top` cells: it goes with its
@@ -51,10 +44,8 @@ pub fn reduce(part: &[u8], work: &mut [u32]) -> Reduced
 {
     let read = word_length(part);
     let mut top: usize = 0;
-    let mut i: usize = 0;
-    while i < read {
-        top = push(work, top, i, letters::letter_of(part[i]));
-        i += 1;
+    for (i, &b) in part[..read].iter().enumerate() {
+        top = push(work, top, i, letters::letter_of(b));
     }
     Reduced { read, left: top }
 }

@@ -1,10 +1,9 @@
--- `lists::is_good` meets its contract. Fine or refused (`CountTurn`).
+-- `lists::is_good` meets its contract: a list is good where its scan says so (`ScanTurn`).
 -- Assumes nothing.
-use Rattle.lists.proofs.CountTurn.{good_fine, good_refused}
+use mathlib.Core.Path.{◌∙◌, ap}
+use Rattle.std.specs.Result.{is_ok}
+use Rattle.lists.proofs.ScanTurn.{good_if}
 use Rattle.lists.proofs.is_good.Goals as goal
 
-pub returns-in-Fine : goal.returns-in-Fine
-returns-in-Fine c = record { good = good_fine _ _ c.scan.ensures.first c.in-Fine.is }
-
-pub returns-in-Refused : goal.returns-in-Refused
-returns-in-Refused c = record { good = good_refused _ _ c.scan.ensures.first c.in-Refused.is }
+pub returns : goal.returns
+returns c = record { good = c.is_ok.ensures.value ∙ ap is_ok c.scan.ensures.first ∙ good_if c.args.n c.args.list.now }

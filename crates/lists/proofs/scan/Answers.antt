@@ -1,21 +1,23 @@
 -- `lists::scan` meets its contract. The stages of `text_refusal`, one after the other (`ScanTurn`).
 -- Assumes nothing.
-use Rattle.theory.proofs.RefusalLaws.{below_alphabet, in_alphabet, above_alphabet}
+use mathlib.Core.Path.{◌∙◌, ap}
+use Rattle.std.proofs.lemmas.Result.{err_from_is_err_and}
+use Rattle.std.specs.declared.result.Result.TheVariants.{Err}
 use Rattle.lists.proofs.ScanTurn.{scan_alphabet, scan_long, scan_byte, scan_last}
-use native.Mathlib.Omega.{arith}
 use Rattle.lists.proofs.scan.Goals as goal
 
-pub returns-then-n-lt1 : goal.returns-then-n-lt1
-returns-then-n-lt1 c = record { first = scan_alphabet _ _ _ (below_alphabet _ (omega (arith, c.if-n-lt1.true))) c.refuse.ensures.made }
-
-pub returns-then-n-gt26 : goal.returns-then-n-gt26
-returns-then-n-gt26 c = record { first = scan_alphabet _ _ _ (above_alphabet _ (omega (arith, c.if-n-lt1.false)) (omega (arith, c.if-n-gt26.true))) c.refuse-then-n-gt26.ensures.made }
+pub returns-in_err-check_alphabet : goal.returns-in_err-check_alphabet
+returns-in_err-check_alphabet c =
+    let p = err_from_is_err_and c.from_residual.result c.from_residual.ensures.1 in
+    record { first = rw (p.1, p.2) (scan_alphabet _ _ _ c.in_err-check_alphabet.ensures.checked) }
 
 pub returns-then-text-gt1048576 : goal.returns-then-text-gt1048576
-returns-then-text-gt1048576 c = record { first = scan_long _ _ _ (in_alphabet _ (omega (arith, c.if-n-lt1.false)) (omega (arith, c.if-n-gt26.false))) (omega (arith, c.if-text-gt1048576.true)) c.refuse-then-text-gt1048576.ensures.made }
+returns-then-text-gt1048576 c = record { first = ap Err c.refuse.ensures.made ∙ scan_long _ _ _ c.in_ok-check_alphabet.ensures.checked c.if-text-gt1048576.true }
 
-pub returns-in-Refused : goal.returns-in-Refused
-returns-in-Refused c = record { first = scan_byte _ _ _ (in_alphabet _ (omega (arith, c.if-n-lt1.false)) (omega (arith, c.if-n-gt26.false))) (omega (arith, c.if-text-gt1048576.false)) c.scan_bytes.ensures.first c.in-Refused.is }
+pub returns-in_err-scan_bytes : goal.returns-in_err-scan_bytes
+returns-in_err-scan_bytes c =
+    let p = err_from_is_err_and c.from_residual-in_err-scan_bytes.result c.from_residual-in_err-scan_bytes.ensures.1 in
+    record { first = rw (p.1, p.2) (scan_byte _ _ _ c.in_ok-check_alphabet.ensures.checked c.if-text-gt1048576.false c.in_err-scan_bytes.ensures.first) }
 
-pub returns-in-Fine : goal.returns-in-Fine
-returns-in-Fine c = record { first = scan_last _ _ _ (in_alphabet _ (omega (arith, c.if-n-lt1.false)) (omega (arith, c.if-n-gt26.false))) (omega (arith, c.if-text-gt1048576.false)) c.scan_bytes.ensures.first c.in-Fine.is c.scan_end.ensures.last }
+pub returns : goal.returns
+returns c = record { first = c.scan_end.ensures.last ∙ scan_last _ _ _ c.in_ok-check_alphabet.ensures.checked c.if-text-gt1048576.false c.in_ok-scan_bytes.ensures.first }

@@ -1,18 +1,13 @@
-use mathlib.Core.Path.{◌≡◌, sym, ◌∙◌}
-use mathlib.Core.Logic.{◌≢◌}
-use native.Mathlib.Omega.{arith}
-use Rattle.lists.proofs.ScanTurn.{head_turn, head_stop, head_end_lem}
+use mathlib.Core.Path.{◌∙◌, ap}
+use Rattle.std.specs.declared.result.Result.TheVariants.{Err}
+use Rattle.lists.proofs.ScanTurn.{passed_turn, passed_stop, passed_end}
 use Rattle.lists.proofs.scan_bytes.Goals as goal
 
-pub returns-then-k-ne0 : goal.returns-then-k-ne0
-returns-then-k-ne0 c =
-    let drawn : c.draws-k.result ≢ 0 = omega arith in
-    record { first = head_stop c.loop-i.invariant c.loop-i-test.true c.draws-k.ensures.draws drawn c.refuse.ensures.made }
+pub returns-in-Some : goal.returns-in-Some
+returns-in-Some c = record { first = ap Err c.refuse.ensures.made ∙ passed_stop _ _ _ _ c.loop-i.invariant c.loop-i-test.true c.in-Some.ensures.draws }
 
 pub loop-i-preserved : goal.loop-i-preserved
-loop-i-preserved c =
-    let fine : c.draws-k.result ≡ 0 = omega arith in
-    head_turn c.loop-i.invariant c.loop-i-test.true (sym c.draws-k.ensures.draws ∙ fine)
+loop-i-preserved c = passed_turn _ _ _ _ c.loop-i.invariant c.loop-i-test.true c.in_default.ensures.draws
 
 pub returns : goal.returns
-returns c = record { first = head_end_lem c.loop-i.invariant c.loop-i-test.false }
+returns c = record { first = passed_end _ _ _ _ c.loop-i.invariant c.loop-i-test.false }

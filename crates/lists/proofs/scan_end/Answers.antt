@@ -1,13 +1,19 @@
--- `lists::scan_end` meets its contract. The three answers are the cases of `last_of` (`ScanTurn`).
+-- `lists::scan_end` meets its contract. The answers are the cases of `last_of`.
 -- Assumes nothing.
-use Rattle.lists.proofs.ScanTurn.{last_refused, last_ended, last_query}
+use mathlib.Core.Path.{sym, ◌∙◌, ap}
+use Rattle.std.specs.declared.result.Result.TheVariants.{Err}
+use Rattle.lists.specs.Scans.{last_of}
 use Rattle.lists.proofs.scan_end.Goals as goal
+use Rattle.lists.proofs.scan_end.Goals.{else-lines-via-then-lines+else-unended, else-lines-via-else-lines}
 
 pub returns-then-unended : goal.returns-then-unended
-returns-then-unended c = record { last = last_refused _ c.if-lines.true c.unended.ensures.unended c.if-unended.true c.refuse.ensures.made }
+unfolding last_of
+returns-then-unended c = record { last = ap Err c.refuse.ensures.made ∙ rw (c.if-lines.true, sym c.if-unended.ensures.unended) }
 
-pub returns-else-unended : goal.returns-else-unended
-returns-else-unended c = record { last = last_ended _ c.if-lines.true c.unended.ensures.unended c.if-unended.false }
-
-pub returns-else-lines : goal.returns-else-lines
-returns-else-lines c = record { last = last_query _ c.if-lines.false }
+pub returns : goal.returns
+unfolding last_of
+returns c =
+    elim c.else-lines.branch [
+      | else-lines-via-then-lines+else-unended w ↦ record { last = rw (w.if-lines.true, sym w.if-unended.ensures.unended) }
+      | else-lines-via-else-lines w ↦ record { last = rw w.if-lines.false }
+    ]

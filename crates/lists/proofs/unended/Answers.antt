@@ -1,10 +1,11 @@
--- `lists::unended` meets its contract. The two answers are the two cases of the definition (`ScanTurn`).
+-- `lists::unended` meets its contract: the last byte, if there is one.
 -- Assumes nothing.
-use Rattle.lists.proofs.ScanTurn.{unended_empty, unended_last}
+use Rattle.std.proofs.Common.{arith}
+use Rattle.std.proofs.lemmas.Grind.{common_steps}
+use Rattle.std.proofs.lemmas.Option.{gets}
+use Rattle.theory.specs.Refusals.{is_unended}
 use Rattle.lists.proofs.unended.Goals as goal
 
-pub returns-then-size-eq0 : goal.returns-then-size-eq0
-returns-then-size-eq0 c = record { unended = unended_empty _ c.if-size-eq0.true }
-
 pub returns : goal.returns
-returns c = record { unended = unended_last _ c.if-size-eq0.false }
+unfolding is_unended
+returns c = grind (arith, common_steps, gets)
