@@ -4,14 +4,15 @@
 -- Assumes nothing.
 use mathlib.Core.Path.{◌≡◌, refl, sym, ◌∙◌, ap}
 use mathlib.Core.Bool.{Bool, true, false, cond, not, ◌&&◌, ◌||◌}
-use mathlib.Core.List.{List, [], ◌∷◌, ◌++◌}
-use Prim.Native.Nat.{ℕ, zero, suc, ◌+◌, ◌*◌, ◌%◌, ◌≤◌, ◌<◌, max}
+use mathlib.Core.List.{List, [], ◌∷◌}
+use Prim.Native.Nat.{ℕ, zero, suc, ◌+◌, ◌-◌, ◌*◌, ◌%◌, ◌≤◌, ◌<◌, max}
 use native.Mathlib.Nat.{suc-mul, mul-le-mul_right}
-use native.Mathlib.Numerals.{add-one}
 use native.Mathlib.Omega.{arith}
 use lib.Dec.{eqb, ltb, leb}
-use lib.ListN.{length, get_or, take}
-use lib.Seq.{take-suc, take_all}
+use lib.ListN.{length, get_or, take, drop, length-take}
+use Rattle.std.proofs.Common.{length-drop}
+use Rattle.std.proofs.lemmas.List.{ext_get_or, get_or-take, get_or-drop}
+use Rattle.std.specs.List.{filter}
 use borrow.Author.Tests.{
   lt-ltb,
   le-ltb,
@@ -116,74 +117,51 @@ module _ {n N : ℕ} {t : List ℕ} where
 
 -- ── A thin row ──
 
--- one cell more
-present_more : (l : List ℕ) (x : ℕ) → present (l ++ (x ∷ [])) ≡ present l + cond (eqb x absent) 0 1
+-- a row ends within the table, and begins at a small place
+pub row_in : {n N : ℕ} {t : List ℕ} {v : ℕ} → Inside n N t v 0 → (v * (2 * n) ≤ 54526004) × (v * (2 * n) + 2 * n ≤ length t)
+row_in {n} {N} {t} {v} i =
+    let s = inside_sizes i in
+    let p : v * (2 * n) ≤ N * (2 * n) = mul-le-mul_right (2 * n) (omega (arith, i.point)) in (
+      omega (arith, product_small n N s.letters s.points),
+      omega (arith, i.point, mul-le-mul_right (2 * n) i.point, suc-mul v (2 * n), s.cells),
+    )
+
+-- a row stands in one piece
+pub row_read : {n N : ℕ} {t : List ℕ} {v : ℕ} → Inside n N t v 0
+    → take (2 * n) (drop (v * (2 * n)) t) ≡ row_of (cell n N t) (usual n) v
+row_read {n} {N} {t} {v} i =
+    ext_get_or 0 (take (2 * n) (drop (v * (2 * n)) t)) (row_of (cell n N t) (usual n) v) size same
+  where
+    letters : length (row_of (cell n N t) (usual n) v) ≡ 2 * n
+    letters = length_row (cell n N t) (usual n) v ∙ length_usual n
+
+    size : length (take (2 * n) (drop (v * (2 * n)) t)) ≡ length (row_of (cell n N t) (usual n) v)
+    size = omega (arith, (row_in i).1, letters, length-take (2 * n) (drop (v * (2 * n)) t), length-drop (v * (2 * n)) t)
+
+    same : (y : ℕ) → y < length (take (2 * n) (drop (v * (2 * n)) t))
+        → get_or (take (2 * n) (drop (v * (2 * n)) t)) y 0 ≡ get_or (row_of (cell n N t) (usual n) v) y 0
+    same y h =
+        let l : y < 2 * n = omega (arith, h, size, letters) in
+        get_or-take (2 * n) (drop (v * (2 * n)) t) y 0 l
+        ∙ get_or-drop (v * (2 * n)) t y 0
+        ∙ cell_read (at_letter y i l)
+        ∙ sym (get_or_row (cell n N t) (usual n) v y (omega (arith, l, length_usual n)) ∙ ap (cell n N t v) (get_or_usual n y l))
+
+-- the cells present are those that are not absent
+pub count_present : (l : List ℕ) → length (filter (λ x. not (eqb x absent)) l) ≡ present l
 unfolding present
-present_more [] x = by_test (eqb x absent) (λ e. rw e) (λ e. rw e)
-present_more (a ∷ l) x =
-    let r = present_more l x in by_test (eqb a absent) (λ e. rw e r) (λ e. rw e (omega arith))
+count_present [] = refl
+count_present (x ∷ l) = let r = count_present l in by_test (eqb x absent) (λ e. rw e r) (λ e. rw e (omega arith))
 
-pub record Thin (n N : ℕ) (t : List ℕ) (v found y : ℕ) : Type 0 where
-  pub place : y ≤ 2 * n
-  pub low : found ≤ y
-  pub counted : found ≡ present (take y (row_of (cell n N t) (usual n) v))
-
--- one cell more of a row
-module _ (n N : ℕ) (t : List ℕ) (v : ℕ) where
-  row_more : (y : ℕ) → y < 2 * n
-      → take (y + 1) (row_of (cell n N t) (usual n) v)
-      ≡ take y (row_of (cell n N t) (usual n) v) ++ (cell n N t v y ∷ [])
-  row_more y h =
-      let l = length_usual n in
-      let k = length_row (cell n N t) (usual n) v in
-      rw (add-one y)
-      (take-suc (row_of (cell n N t) (usual n) v) y 0 (omega arith)
-      ∙ ap (λ x. take y (row_of (cell n N t) (usual n) v) ++ (x ∷ []))
-      (get_or_row (cell n N t) (usual n) v y (omega arith) ∙ ap (cell n N t v) (get_or_usual n y h)))
-
-module _ {n N : ℕ} {t : List ℕ} {v : ℕ} where
-  pub thin_first : Thin n N t v 0 0
-  unfolding present
-  thin_first = record { place = omega arith; low = omega arith; counted = refl }
-
-  pub thin_present : {found y x : ℕ} → Thin n N t v found y → y < 2 * n → x ≡ cell n N t v y → (x ≡ absent → ⊥)
-      → Thin n N t v (found + 1) (y + 1)
-  thin_present {found} {y} {x} h l e m =
-      record {
-        place = omega arith;
-        low = omega (arith, h.low);
-        counted =
-            omega (
-              arith,
-              h.counted,
-              ap present (row_more n N t v y l),
-              present_more (take y (row_of (cell n N t) (usual n) v)) (cell n N t v y),
-              ap {B = ℕ} (λ b. cond b 0 1) (ne_eqb (cell n N t v y) absent (λ q. m (e ∙ q))),
-            );
-      }
-
-  pub thin_absent : {found y x : ℕ} → Thin n N t v found y → y < 2 * n → x ≡ cell n N t v y → x ≡ absent
-      → Thin n N t v found (y + 1)
-  thin_absent {found} {y} {x} h l e m =
-      record {
-        place = omega arith;
-        low = omega (arith, h.low);
-        counted =
-            omega (
-              arith,
-              h.counted,
-              ap present (row_more n N t v y l),
-              present_more (take y (row_of (cell n N t) (usual n) v)) (cell n N t v y),
-              ap {B = ℕ} (λ b. cond b 0 1) (eq-eqb (cell n N t v y) absent (sym e ∙ m)),
-            );
-      }
-
-  pub thin_done : {found y : ℕ} → Thin n N t v found y → 2 * n ≤ y → ltb found 2 ≡ is_thin n N t v
-  unfolding is_thin
-  thin_done {found} {y} h l =
-      ap (λ k. ltb k 2) (h.counted
-      ∙ ap present (take_all y (row_of (cell n N t) (usual n) v)
-      (omega (arith, length_row (cell n N t) (usual n) v, length_usual n))))
+-- so a row with fewer than two of them is thin
+pub row_counted : {n N : ℕ} {t : List ℕ} {v k : ℕ} → Inside n N t v 0
+    → k ≡ length (filter (λ x. not (eqb x absent)) (take (v * (2 * n) + 2 * n - v * (2 * n)) (drop (v * (2 * n)) t)))
+    → ltb k 2 ≡ is_thin n N t v
+unfolding is_thin
+row_counted {n} {N} {t} {v} i e =
+    let w : v * (2 * n) + 2 * n - v * (2 * n) ≡ 2 * n = omega arith in
+    let row = ap (λ m. take m (drop (v * (2 * n)) t)) w ∙ row_read i in
+    ap (λ m. ltb m 2) (e ∙ ap (λ l. length (filter (λ x. not (eqb x absent)) l)) row ∙ count_present (row_of (cell n N t) (usual n) v))
 
 -- ── A broken row ──
 
@@ -259,15 +237,13 @@ module _ (s : Seen) (x y : ℕ) where
   unfolding visited_as
   visited_absent e = rw (eq-eqb x absent e)
 
-  pub visited_lower : {m : ℕ} → (x ≡ absent → ⊥) → m ≡ max s.met x → y % 2 ≡ 0
-      → record { met = m; edges = s.edges + 1; full = s.full } ≡ visited_as s x y
+  pub visited_present : {m e : ℕ} → (x ≡ absent → ⊥) → m ≡ max s.met x → e ≡ s.edges + cond (eqb (y % 2) 0) 1 0
+      → record { met = m; edges = e; full = s.full } ≡ visited_as s x y
   unfolding visited_as
-  visited_lower e q h = rw (ne_eqb x absent e, eq-eqb (y % 2) 0 h, q)
+  visited_present a q h = rw (ne_eqb x absent a) (λ i. record { met = q i; edges = h i; full = s.full })
 
-  pub visited_capital : {m : ℕ} → (x ≡ absent → ⊥) → m ≡ max s.met x → (y % 2 ≡ 0 → ⊥)
-      → record { met = m; edges = s.edges; full = s.full } ≡ visited_as s x y
-  unfolding visited_as
-  visited_capital {m} e q h = rw (ne_eqb x absent e, ne_eqb (y % 2) 0 h, q) (λ i. record { met = max s.met x; edges = sym zero_more i; full = s.full })
-    where
-      zero_more : s.edges + 0 ≡ s.edges
-      zero_more = omega arith
+  pub edges_lower : y % 2 ≡ 0 → s.edges + 1 ≡ s.edges + cond (eqb (y % 2) 0) 1 0
+  edges_lower h = rw (eq-eqb (y % 2) 0 h)
+
+  pub edges_capital : (y % 2 ≡ 0 → ⊥) → s.edges ≡ s.edges + cond (eqb (y % 2) 0) 1 0
+  edges_capital h = rw (ne_eqb (y % 2) 0 h) (omega arith)

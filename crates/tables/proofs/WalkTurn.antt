@@ -17,10 +17,11 @@ use native.Mathlib.Omega.{arith}
 use lib.Dec.{eqb, ltb}
 use lib.ListN.{length, get_or, take}
 use borrow.Author.Tests.{eq-eqb, ne_eqb, lt-ltb, le-ltb}
+use Rattle.std.specs.declared.result.Result.TheVariants.{Ok, Err}
 use Rattle.theory.specs.Letters.{usual, StandsIn}
 use Rattle.theory.specs.Graphs.{is_lower}
 use Rattle.theory.specs.Refusals.{is_alphabet}
-use Rattle.theory.specs.TableRefusals.{is_lent}
+use Rattle.theory.specs.TableRefusals.{is_lent, at_cell, cell_refusal}
 use Rattle.theory.specs.Tables.{absent, Cells, cell}
 use Rattle.theory.specs.Canonical.{
   row_of,
@@ -46,10 +47,13 @@ use Rattle.theory.proofs.RowLaws.{
   greatest_met_most,
 }
 use Rattle.theory.proofs.PathLaws.{spot}
-use Rattle.tables.specs.Walks.{walked_for, walked_as}
+use Rattle.refusals.specs.declared.Cause.TheVariants.{Faulty}
+use Rattle.refusals.specs.declared.Refusal.{Refusal}
+use Rattle.refusals.specs.Given.{refusal_at}
+use Rattle.refusals.proofs.UnlessLaws.{ok_unless, err_unless}
+use Rattle.tables.specs.Walks.{walk_of, walked_as}
 use Rattle.tables.specs.Cells.{Inside, is_thin, row_broken, broken_at, visited_as}
 use Rattle.tables.specs.declared.Seen.{Seen}
-use Rattle.tables.specs.declared.Walked.TheVariants.{Faulty, Sound}
 use Rattle.tables.proofs.CellTurn.{inside_sizes, place_in, cell_outside, cell_beyond}
 use Rattle.tables.proofs.ScanLaws.{
   and_none,
@@ -165,9 +169,10 @@ module _ {n N : ℕ} {t : List ℕ} {v y : ℕ} {seen : Seen} (H : Head n N t v 
       (λ e. by_cases (dec_lt 0 v) (λ h. rw (met_test e h)) (λ h. rw (le-ltb 0 v (omega arith))))
       (λ e. rw (ne_eqb y 0 e)))
 
-  pub head_stop : {b : Bool} {p : ℕ} → b ≡ broken_at n N t v y seen.met → b ≡ true → p ≡ v * (2 * n) + y → Faulty p ≡ walked_as n N t
-  unfolding walked_as faulty_cell
-  head_stop {b} {p} q e f = ap Faulty f ∙ sym (ap (walked_for n N t) found)
+  pub head_stop : {b : Bool} {p : ℕ} {r : Refusal} → b ≡ broken_at n N t v y seen.met → b ≡ true → p ≡ v * (2 * n) + y
+      → r ≡ refusal_at Faulty p → Err r ≡ walked_as n N t
+  unfolding walked_as cell_refusal faulty_cell
+  head_stop {b} {p} q e f g = ap Err (g ∙ ap (refusal_at Faulty) f) ∙ err_unless (cell_refusal n N t) (walk_of n N t) (ap at_cell found)
     where
       first : IsFirst (is_faulty N (usual n) (cell n N t)) N (length (usual n)) v y
       first =
@@ -284,12 +289,12 @@ module _ {n N : ℕ} {t : List ℕ} {seen : Seen} where
           }
 
   -- after the last row the table is sound
-  pub head_done : {v y : ℕ} → Head n N t v y seen → y ≡ 0 → v ≡ N → Sound seen.edges seen.full ≡ walked_as n N t
-  unfolding walked_as faulty_cell edges_of is_full
+  pub head_done : {v y : ℕ} → Head n N t v y seen → y ≡ 0 → v ≡ N → Ok (record { edges = seen.edges; full = seen.full }) ≡ walked_as n N t
+  unfolding walked_as cell_refusal faulty_cell edges_of is_full
   head_done {v} {y} H z e = go (subst (λ u. Head n N t u 0 seen) e (subst (λ i. Head n N t v i seen) z H))
     where
-      go : Head n N t N 0 seen → Sound seen.edges seen.full ≡ walked_as n N t
-      go K = sym (ap (walked_for n N t) sound ∙ λ i. Sound (sym edges i) (sym full i))
+      go : Head n N t N 0 seen → Ok (record { edges = seen.edges; full = seen.full }) ≡ walked_as n N t
+      go K = (λ i. Ok (record { edges = edges i; full = full i })) ∙ ok_unless (cell_refusal n N t) (walk_of n N t) (ap at_cell sound)
         where
           sound : faulty_cell N (usual n) (cell n N t) ≡ none
           sound = ap (position_of (usual n)) (first_place_is_none (is_faulty N (usual n) (cell n N t)) N (length (usual n)) (λ u j a b. K.clear u j (inl a) b))

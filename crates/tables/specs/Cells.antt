@@ -4,17 +4,17 @@
 --   row_broken n N t v g    == row v, before which the greatest point met was g, breaks one of the last two rules
 --   broken_at n N t v y g   == so does the cell of letter y at v, of all five; a row's rules stand at its first cell
 --   visited_as seen x y     == what was seen, and then the cell x of letter y
---   index_for N full        == the index of N points where no cell is absent, or some is
+--   index_for N full        == the index of N points where no cell is absent; none where some is
 -- A point met is any up to the greatest, as points are met in order: so `row_broken` asks for the greatest alone. Assumes nothing.
 use Rattle.std.specs.Prelude.{◌≡◌, Bool, true, false, cond, ◌&&◌, ◌||◌, List, ℕ, ◌+◌, ◌*◌, ◌<◌, max, eqb, ltb, length}
+use Rattle.std.specs.declared.option.Option.{Option}
+use Rattle.std.specs.declared.option.Option.TheVariants.{None, Some}
 use Rattle.theory.specs.Letters.{usual}
 use Rattle.theory.specs.Graphs.{is_lower}
 use Rattle.theory.specs.Refusals.{is_alphabet}
 use Rattle.theory.specs.TableRefusals.{is_lent}
 use Rattle.theory.specs.Tables.{absent, cell}
 use Rattle.theory.specs.Canonical.{row_of, present, breaks_cell}
-use Rattle.tables.specs.declared.Index.{Index}
-use Rattle.tables.specs.declared.Index.TheVariants.{Finite, Infinite}
 use Rattle.tables.specs.declared.Seen.{Seen}
 
 pub record Inside (n N : ℕ) (t : List ℕ) (v y : ℕ) : Type 0 where
@@ -37,6 +37,5 @@ visited_as seen x y =
     cond (eqb x absent) (record { met = seen.met; edges = seen.edges; full = false })
     (record { met = max seen.met x; edges = seen.edges + cond (is_lower y) 1 0; full = seen.full })
 
-abbrev pub index_for : ℕ → Bool → Index
-index_for N true = Finite N
-index_for N false = Infinite
+abbrev pub index_for : ℕ → Bool → Option ℕ
+index_for N full = cond full (Some N) None

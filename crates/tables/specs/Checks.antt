@@ -3,23 +3,21 @@
 --   CheckOutcome n N t r <-> r is that answer. The table is lent to be read and stays as it is
 -- Assumes nothing.
 use Rattle.std.specs.Prelude.{◌≡◌, List, ℕ, length}
-use Rattle.std.proofs.Math.Option.{Option, none, some}
+use Rattle.std.specs.declared.option.Option.{Option}
+use Rattle.std.specs.declared.option.Option.TheVariants.{None, Some}
+use Rattle.std.specs.declared.result.Result.{Result}
 use Rattle.theory.specs.Letters.{usual}
-use Rattle.theory.specs.Refusals.{Refusal as FirstCause}
 use Rattle.theory.specs.TableRefusals.{check_refusal}
 use Rattle.theory.specs.Tables.{cell}
 use Rattle.theory.specs.Basis.{Index as IndexOf, finite, infinite, edges_of, rank_of, index_of}
-use Rattle.refusals.specs.Given.{given}
-use Rattle.tables.specs.declared.Index.{Index}
-use Rattle.tables.specs.declared.Index.TheVariants.{Finite, Infinite}
+use Rattle.refusals.specs.declared.Refusal.{Refusal}
+use Rattle.refusals.specs.Given.{unless}
 use Rattle.tables.specs.declared.Figures.{Figures}
-use Rattle.tables.specs.declared.Checked.{Checked}
-use Rattle.tables.specs.declared.Checked.TheVariants.{Refused, Counted}
 
--- the index as code holds it
-abbrev pub index_as : IndexOf → Index
-index_as (finite k) = Finite k
-index_as infinite = Infinite
+-- the index as code holds it: none is infinite
+abbrev pub index_as : IndexOf → Option ℕ
+index_as (finite k) = Some k
+index_as infinite = None
 
 unfoldable pub figures_as : ℕ → ℕ → List ℕ → Figures
 figures_as n N t =
@@ -29,12 +27,8 @@ figures_as n N t =
       index = index_as (index_of (cell n N t) N (usual n));
     }
 
-abbrev pub checked_for : ℕ → ℕ → List ℕ → Option FirstCause → Checked
-checked_for n N t none = Counted (figures_as n N t)
-checked_for n N t (some r) = Refused (given r)
+unfoldable pub checked_as : ℕ → ℕ → List ℕ → Result Figures Refusal
+checked_as n N t = unless (check_refusal n N t) (figures_as n N t)
 
-unfoldable pub checked_as : ℕ → ℕ → List ℕ → Checked
-checked_as n N t = checked_for n N t (check_refusal n N t)
-
-abbrev pub CheckOutcome : ℕ → ℕ → List ℕ → Checked → Type 0
+abbrev pub CheckOutcome : ℕ → ℕ → List ℕ → Result Figures Refusal → Type 0
 CheckOutcome n N t r = r ≡ checked_as n N t

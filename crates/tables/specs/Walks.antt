@@ -1,18 +1,19 @@
 -- What the canonical walk says (document 01, 'The table'), cited by `walk`.
---   walked_as n N t == Faulty at the lowest faulty cell; else Sound, with the edges and whether no cell is absent
+--   walk_of n N t   == the edges, and whether no cell is absent
+--   walked_as n N t == refusal 8 at the lowest faulty cell; else that
 -- Assumes nothing.
-use Rattle.std.proofs.Math.Option.{Option, none, some}
 use Rattle.std.specs.Prelude.{List, ℕ, length}
+use Rattle.std.specs.declared.result.Result.{Result}
 use Rattle.theory.specs.Letters.{usual}
 use Rattle.theory.specs.Tables.{cell}
-use Rattle.theory.specs.Canonical.{faulty_cell}
+use Rattle.theory.specs.TableRefusals.{cell_refusal}
 use Rattle.theory.specs.Basis.{edges_of, is_full}
+use Rattle.refusals.specs.declared.Refusal.{Refusal}
+use Rattle.refusals.specs.Given.{unless}
 use Rattle.tables.specs.declared.Walked.{Walked}
-use Rattle.tables.specs.declared.Walked.TheVariants.{Faulty, Sound}
 
-abbrev pub walked_for : ℕ → ℕ → List ℕ → Option ℕ → Walked
-walked_for n N t none = Sound (length (edges_of (cell n N t) N (usual n))) (is_full (cell n N t) N (usual n))
-walked_for n N t (some p) = Faulty p
+abbrev pub walk_of : ℕ → ℕ → List ℕ → Walked
+walk_of n N t = record { edges = length (edges_of (cell n N t) N (usual n)); full = is_full (cell n N t) N (usual n) }
 
-unfoldable pub walked_as : ℕ → ℕ → List ℕ → Walked
-walked_as n N t = walked_for n N t (faulty_cell N (usual n) (cell n N t))
+unfoldable pub walked_as : ℕ → ℕ → List ℕ → Result Walked Refusal
+walked_as n N t = unless (cell_refusal n N t) (walk_of n N t)

@@ -13,8 +13,8 @@ returns-then-points-to c = record { broken = cell_outside _ _ _ _ _ _ c.cell_at-
 pub returns-then-met-to : goal.returns-then-met-to
 returns-then-met-to c = record { broken = cell_beyond _ _ _ _ _ _ c.cell_at-x.ensures.cell c.if-x.false (omega (arith, c.if-points-to.false)) (omega (arith, c.if-met-to.true)) }
 
-pub inverse-back-requires : goal.inverse-back-requires
-inverse-back-requires c = let s = inside_sizes c.requires in omega (arith, c.requires.letter)
+pub overflow_cast-y : goal.overflow_cast-y
+overflow_cast-y c = let s = inside_sizes c.requires in omega (arith, c.requires.letter)
 
 pub cell_at-requires : goal.cell_at-requires
 cell_at-requires c = at_letter _ (at_point _ c.requires (omega (arith, c.if-points-to.false))) (omega (arith, c.inverse-back.ensures.inverse, inverse_in c.requires))
