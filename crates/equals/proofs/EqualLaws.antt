@@ -2,51 +2,40 @@
 --   fine : what holds of two tables where nothing is refused
 -- Assumes nothing.
 use mathlib.Core.Path.{◌≡◌, refl, sym, ◌∙◌, ap, subst}
-use mathlib.Core.Bool.{Bool, true, false, cond, not, ◌&&◌}
-use mathlib.Core.Option.{Option, none, some}
+use mathlib.Core.Bool.{Bool, true, false, not, ◌&&◌}
+use mathlib.Core.Option.{Option, none}
 use mathlib.Core.List.{List}
 use Prim.Native.Nat.{ℕ, ◌*◌, ◌≤◌}
 use native.Mathlib.Omega.{arith}
-use native.Mathlib.Nat.{mul-le-mul}
 use lib.Dec.{eqb}
 use lib.ListN.{length, take}
 use borrow.Author.Tests.{eq-eqb, ne_eqb, eqb-true, not-false}
+use Rattle.std.specs.Prelude.{⊤}
+use Rattle.std.specs.declared.result.Result.{Result}
+use Rattle.std.specs.declared.result.Result.TheVariants.{Ok, Err}
 use Rattle.theory.specs.Letters.{usual}
 use Rattle.theory.specs.Refusals.{Refusal as FirstCause, point_limit, is_alphabet, or_else, refused_if}
 use Rattle.theory.specs.Tables.{cell}
 use Rattle.theory.specs.Canonical.{Canonical, faulty_cell}
 use Rattle.theory.specs.TableRefusals.{is_lent, at_cell, cell_refusal, equal_refusal}
-use Rattle.theory.proofs.WordLaws.{by_test}
 use Rattle.theory.proofs.RefusalLaws.{and_true, alphabet_in}
 use Rattle.theory.proofs.CanonicalLaws.{table_none_canonical}
 use Rattle.theory.proofs.TableRefusalLaws.{else_none, unrefused, no_cell, lent_in}
-use Rattle.refusals.specs.Given.{given, given_as}
+use Rattle.refusals.specs.Given.{refusal_at, unless}
+use Rattle.refusals.specs.declared.Cause.TheVariants.{Alphabet}
 use Rattle.refusals.specs.declared.Refusal.{Refusal}
-use Rattle.tables.specs.Walks.{walked_as}
+use Rattle.refusals.proofs.UnlessLaws.{ok_unless, err_unless}
+use Rattle.refusals.proofs.StageLaws.{err_any, err_first, ok_next}
+use Rattle.tables.specs.Walks.{walk_of, walked_as}
 use Rattle.tables.specs.declared.Walked.{Walked}
-use Rattle.tables.specs.declared.Walked.TheVariants.{Faulty, Sound}
-use Rattle.tables.proofs.WalkLaws.{walk_sound, walk_faulty}
-use Rattle.equals.specs.Equals.{same_cells, equal_for, equal_as}
-use Rattle.equals.specs.Faults.{or_cell, first_fault, fault_as}
-use Rattle.equals.specs.declared.Equality.TheVariants.{Refused, Yes, No}
-use Rattle.equals.specs.declared.Fault.{Fault}
-use Rattle.equals.specs.declared.Fault.TheVariants.{At, Nowhere}
+use Rattle.tables.proofs.WalkLaws.{walk_ok}
+use Rattle.equals.specs.Equals.{same_cells, is_same, equal_as}
 
--- ── The faulty cell ──
-
-module _ (n N : ℕ) (t : List ℕ) (m M : ℕ) (s : List ℕ) where
-  pub fault_first : {w : Walked} {p : ℕ} → w ≡ walked_as n N t → w ≡ Faulty p → At p ≡ fault_as (first_fault n N t m M s)
-  unfolding first_fault
-  fault_first e f = rw (walk_faulty n N t (sym e ∙ f))
-
-  module _ {w v : Walked} {edges : ℕ} {full : Bool} (e : w ≡ walked_as n N t) (f : w ≡ Sound edges full) (d : v ≡ walked_as m M s) where
-    pub fault_second : {p : ℕ} → v ≡ Faulty p → At p ≡ fault_as (first_fault n N t m M s)
-    unfolding first_fault
-    fault_second g = rw (walk_sound n N t (sym e ∙ f), walk_faulty m M s (sym d ∙ g))
-
-    pub fault_nowhere : {other : ℕ} {whole : Bool} → v ≡ Sound other whole → Nowhere ≡ fault_as (first_fault n N t m M s)
-    unfolding first_fault
-    fault_nowhere g = rw (walk_sound n N t (sym e ∙ f), walk_sound m M s (sym d ∙ g))
+-- two tests under one number refuse like one after the other
+one_by_one : (a b : Bool) (k p : ℕ) (o : Option FirstCause)
+    → or_else (refused_if (not (a && b)) k p) o ≡ or_else (refused_if (not a) k p) (or_else (refused_if (not b) k p) o)
+one_by_one true b k p o = refl
+one_by_one false b k p o = refl
 
 -- ── Nothing is refused ──
 
@@ -93,78 +82,112 @@ fine n N t m M s e =
 
 module _ (n N : ℕ) (t : List ℕ) (m M : ℕ) (s : List ℕ) where
   module _ (clear : equal_refusal n N t m M s ≡ none) where
-    -- the cells that are compared are few, and both tables have them
-    pub cells_few : (2 * n ≤ 52) × (N * (2 * n) ≤ 54526004)
-    cells_few =
-        let f = fine n N t m M s clear in
-        let w : 2 * n ≤ 52 = omega (arith, f.alphabet.1) in
-        (w, mul-le-mul f.lent.1 w)
-
+    -- both tables have the cells that are compared
     pub cells_there : N ≡ M → (N * (2 * n) ≤ length t) × (N * (2 * n) ≤ length s)
     cells_there e =
         let f = fine n N t m M s clear in
         (f.lent.2, subst (λ k. k ≤ length s) (ap (λ k. k * (2 * m)) (sym e) ∙ ap (λ k. N * (2 * k)) f.same) f.other.2)
 
     -- the answer, by its two tests
-    pub answered : equal_as n N t m M s ≡ cond (eqb N M && same_cells (take (N * (2 * n)) t) (take (N * (2 * n)) s)) Yes No
+    pub answered : Ok (is_same n N t M s) ≡ equal_as n N t m M s
     unfolding equal_as
-    answered = ap (equal_for n N t M s) clear
+    answered = ok_unless (equal_refusal n N t m M s) (is_same n N t M s) clear
 
-    pub points_differ : (N ≡ M → ⊥) → No ≡ equal_as n N t m M s
-    points_differ e = sym (answered ∙ rw (ne_eqb N M e))
+    pub points_differ : (N ≡ M → ⊥) → Ok false ≡ equal_as n N t m M s
+    unfolding is_same
+    points_differ e = ap Ok (sym different) ∙ answered
+      where
+        different : is_same n N t M s ≡ false
+        different = rw (ne_eqb N M e)
 
-    pub cells_same : {b : Bool} → N ≡ M → b ≡ same_cells (take (N * (2 * n)) t) (take (N * (2 * n)) s) → b ≡ true → Yes ≡ equal_as n N t m M s
-    cells_same e f g = sym (answered ∙ rw (eq-eqb N M e, sym f ∙ g))
+    pub cells_decide : {count : ℕ} {b : Bool} → N ≡ M → count ≡ N * (2 * n) → b ≡ same_cells (take count t) (take count s) → Ok b ≡ equal_as n N t m M s
+    unfolding is_same
+    cells_decide {count} {b} e k f = ap Ok (f ∙ ap (λ j. same_cells (take j t) (take j s)) k ∙ sym decided) ∙ answered
+      where
+        decided : is_same n N t M s ≡ same_cells (take (N * (2 * n)) t) (take (N * (2 * n)) s)
+        decided = rw (eq-eqb N M e)
 
-    pub cells_differ : {b : Bool} → N ≡ M → b ≡ same_cells (take (N * (2 * n)) t) (take (N * (2 * n)) s) → b ≡ false → No ≡ equal_as n N t m M s
-    cells_differ e f g = sym (answered ∙ rw (eq-eqb N M e, sym f ∙ g))
+  -- ── Refusals: the two alphabets, the two sizes, the cells of both ──
 
-  -- ── Refusals ──
+  abbrev by_alphabet : Option FirstCause
+  by_alphabet = refused_if (not (is_alphabet n)) 1 0
 
-  refused : {r : Refusal} (f : FirstCause) → equal_refusal n N t m M s ≡ some f → r ≡ given f → Refused r ≡ equal_as n N t m M s
-  unfolding equal_as
-  refused f e g = ap Refused g ∙ sym (ap (equal_for n N t M s) e)
+  abbrev by_other : Option FirstCause
+  by_other = refused_if (not (eqb m n)) 1 0
 
-  pub alphabet_refused : {r : Refusal} → ((1 ≤ n) × (n ≤ 26) → ⊥) → r ≡ given_as 1 0 → Refused r ≡ equal_as n N t m M s
+  abbrev by_size : Option FirstCause
+  by_size = refused_if (not (is_lent n N (length t))) 6 0
+
+  abbrev by_other_size : Option FirstCause
+  by_other_size = refused_if (not (is_lent m M (length s))) 6 0
+
+  abbrev by_cells : Option FirstCause
+  by_cells = or_else (cell_refusal n N t) (cell_refusal m M s)
+
+  -- the causes in a row
+  in_row : equal_refusal n N t m M s ≡ or_else by_alphabet (or_else by_other (or_else by_size (or_else by_other_size by_cells)))
   unfolding equal_refusal
-  alphabet_refused e g = refused (record { number = 1; place = 0 }) (rw (by_test (is_alphabet n) (λ a. absurd (e (alphabet_in n a))) (λ a. a))) g
+  in_row =
+      one_by_one (is_alphabet n) (eqb m n) 1 0 (or_else (refused_if (not (is_lent n N (length t) && is_lent m M (length s))) 6 0) by_cells)
+      ∙ ap (λ o. or_else by_alphabet (or_else by_other o)) (one_by_one (is_lent n N (length t)) (is_lent m M (length s)) 6 0 by_cells)
 
-  module _ (good : is_alphabet n ≡ true) where
-    pub other_refused : {r : Refusal} → (m ≡ n → ⊥) → r ≡ given_as 1 0 → Refused r ≡ equal_as n N t m M s
-    unfolding equal_refusal
-    other_refused e g = refused (record { number = 1; place = 0 }) (rw (good, ne_eqb m n e)) g
+  -- what `check_tables` answers
+  abbrev checked : Result ⊤ Refusal
+  checked = unless (equal_refusal n N t m M s) (tt {0})
 
+  rowed : {x : Result ⊤ Refusal} → x ≡ unless (or_else by_alphabet (or_else by_other (or_else by_size (or_else by_other_size by_cells)))) (tt {0}) → x ≡ checked
+  rowed e = e ∙ sym (ap (λ o. unless o (tt {0})) in_row)
+
+  pub alphabet_refused : {r : Refusal} → Err r ≡ unless by_alphabet (tt {0}) → Err r ≡ checked
+  alphabet_refused e = rowed (err_first by_alphabet (tt {0}) (tt {0}) (or_else by_other (or_else by_size (or_else by_other_size by_cells))) e)
+
+  -- n is an alphabet: the other's n decides, then sizes and cells
+  module _ {a : ⊤} (good : Ok a ≡ unless by_alphabet (tt {0})) where
+    then_other : {x : Result ⊤ Refusal} → x ≡ unless (or_else by_other (or_else by_size (or_else by_other_size by_cells))) (tt {0}) → x ≡ checked
+    then_other e = rowed (ok_next by_alphabet (tt {0}) (tt {0}) (or_else by_other (or_else by_size (or_else by_other_size by_cells))) good e)
+
+    pub other_refused : (m ≡ n → ⊥) → Err (refusal_at Alphabet 0) ≡ checked
+    other_refused e =
+        then_other (err_unless (or_else by_other (or_else by_size (or_else by_other_size by_cells))) (tt {0}) {c = record { number = 1; place = 0 }} (rw (ne_eqb m n e)))
+
+    -- both have one alphabet: sizes and cells decide
     module _ (one : m ≡ n) where
-      pub lent_refused : {b : Bool} {r : Refusal} → b ≡ is_lent n N (length t) → b ≡ false → r ≡ given_as 6 0 → Refused r ≡ equal_as n N t m M s
-      unfolding equal_refusal
-      lent_refused e f g = refused (record { number = 6; place = 0 }) (rw (good, eq-eqb m n one, sym e ∙ f)) g
+      then_sizes : {x : Result ⊤ Refusal} → x ≡ unless (or_else by_size (or_else by_other_size by_cells)) (tt {0}) → x ≡ checked
+      then_sizes e =
+          then_other (ok_next by_other (tt {0}) (tt {0}) (or_else by_size (or_else by_other_size by_cells)) (ok_unless by_other (tt {0}) (rw (eq-eqb m n one))) e)
 
-      module _ (lent : is_lent n N (length t) ≡ true) where
-        pub other_lent_refused : {b : Bool} {r : Refusal} → b ≡ is_lent m M (length s) → b ≡ false → r ≡ given_as 6 0 → Refused r ≡ equal_as n N t m M s
-        unfolding equal_refusal
-        other_lent_refused e f g = refused (record { number = 6; place = 0 }) (rw (good, eq-eqb m n one, lent, sym e ∙ f)) g
+      pub size_refused : {r : Refusal} → Err r ≡ unless by_size (tt {0}) → Err r ≡ checked
+      size_refused e = then_sizes (err_first by_size (tt {0}) (tt {0}) (or_else by_other_size by_cells) e)
 
-        module _ (other : is_lent m M (length s) ≡ true) where
-          -- the faulty cells decide
-          late : equal_refusal n N t m M s ≡ at_cell (first_fault n N t m M s)
-          unfolding equal_refusal cell_refusal first_fault
-          late = rw (good, eq-eqb m n one, lent, other) (go (faulty_cell N (usual n) (cell n N t)) (faulty_cell M (usual m) (cell m M s)))
-            where
-              go : (a b : Option ℕ) → or_else (at_cell a) (at_cell b) ≡ at_cell (or_cell a b)
-              go none b = refl
-              go (some p) b = refl
+      module _ {b : ⊤} (lent : Ok b ≡ unless by_size (tt {0})) where
+        then_other_size : {x : Result ⊤ Refusal} → x ≡ unless (or_else by_other_size by_cells) (tt {0}) → x ≡ checked
+        then_other_size e = then_sizes (ok_next by_size (tt {0}) (tt {0}) (or_else by_other_size by_cells) lent e)
 
-          pub fault_refused : {f : Fault} {p : ℕ} {r : Refusal} → f ≡ fault_as (first_fault n N t m M s) → f ≡ At p → r ≡ given_as 8 p → Refused r ≡ equal_as n N t m M s
-          fault_refused {f} {p} {r} e d g =
-              refused (record { number = 8; place = p }) (late ∙ ap at_cell (go (first_fault n N t m M s) (sym d ∙ e))) g
-            where
-              go : (o : Option ℕ) → At p ≡ fault_as o → o ≡ some p
-              go none z = let y : ◌≡◌ {A = ℕ} 0 1 = cc in absurd (omega arith)
-              go (some q) z = cc
+        pub other_size_refused : {r : Refusal} → Err r ≡ unless by_other_size (tt {0}) → Err r ≡ checked
+        other_size_refused e = then_other_size (err_first by_other_size (tt {0}) (tt {0}) by_cells e)
 
-          pub no_fault : {f : Fault} → f ≡ fault_as (first_fault n N t m M s) → f ≡ Nowhere → equal_refusal n N t m M s ≡ none
-          no_fault {f} e d = late ∙ ap at_cell (go (first_fault n N t m M s) (sym d ∙ e))
-            where
-              go : (o : Option ℕ) → Nowhere ≡ fault_as o → o ≡ none
-              go none z = refl
-              go (some q) z = let y : ◌≡◌ {A = ℕ} 0 1 = cc in absurd (omega arith)
+        -- both are lent: the cells decide
+        module _ {d : ⊤} (other_lent : Ok d ≡ unless by_other_size (tt {0})) where
+          then_cells : {x : Result ⊤ Refusal} → x ≡ unless by_cells (tt {0}) → x ≡ checked
+          then_cells e = then_other_size (ok_next by_other_size (tt {0}) (tt {0}) by_cells other_lent e)
+
+          pub cell_refused : {r : Refusal} → Err r ≡ walked_as n N t → Err r ≡ checked
+          unfolding walked_as
+          cell_refused e = then_cells (err_first (cell_refusal n N t) (walk_of n N t) (tt {0}) (cell_refusal m M s) e)
+
+          module _ {seen : Walked} (sound : Ok seen ≡ walked_as n N t) where
+            then_other_cells : {x : Result ⊤ Refusal} → x ≡ unless (cell_refusal m M s) (tt {0}) → x ≡ checked
+            unfolding walked_as
+            then_other_cells e = then_cells (ok_next (cell_refusal n N t) (walk_of n N t) (tt {0}) (cell_refusal m M s) sound e)
+
+            pub other_cell_refused : {r : Refusal} → Err r ≡ walked_as m M s → Err r ≡ checked
+            unfolding walked_as
+            other_cell_refused e = then_other_cells (err_any (cell_refusal m M s) (walk_of m M s) (tt {0}) e)
+
+            pub none_refused : {v : Walked} → Ok v ≡ walked_as m M s → Ok (tt {0}) ≡ checked
+            none_refused e = then_other_cells (ok_unless (cell_refusal m M s) (tt {0}) (walk_ok m M s e).0)
+
+  -- the first cause is the answer
+  pub equal_refused : {r : Refusal} → Err r ≡ checked → Err r ≡ equal_as n N t m M s
+  unfolding equal_as
+  equal_refused e = err_any (equal_refusal n N t m M s) (tt {0}) (is_same n N t M s) e

@@ -1,4 +1,4 @@
--- Laws of this crate's loop and answers, a file a notion.
+-- Laws of this crate's comparison and answers, a file a notion.
 pub mod CellsTurn
 pub mod EqualLaws
 pub mod Equals

@@ -1,2 +1,1 @@
 pub mod Equals
-pub mod Faults

@@ -4,32 +4,24 @@
 --   fine          : what holds where nothing is refused
 -- Assumes nothing.
 use mathlib.Core.Path.{◌≡◌, refl, sym, ◌∙◌, ap}
-use mathlib.Core.Bool.{Bool, true, false, cond, not, true≢false}
+use mathlib.Core.Bool.{Bool, true, false, not, true≢false}
 use mathlib.Core.Logic.{by_cases}
-use mathlib.Core.Option.{Option, none, some}
+use mathlib.Core.Option.{Option, none}
 use mathlib.Core.List.{List, [], ◌∷◌, ◌++◌, map, append_assoc}
 use Prim.Native.Nat.{ℕ, suc, ◌-◌, ◌*◌, ◌≤◌, ◌<◌}
 use native.Mathlib.Decide.{ℕ_discrete}
 use native.Mathlib.Omega.{arith}
-use lib.Dec.{eqb, ltb}
+use lib.Dec.{ltb}
 use lib.ListN.{length, get_or, take, drop, replicate}
 use lib.Seq.{take_at, take-length}
-use borrow.Author.Tests.{eq-eqb, ne_eqb, lt-ltb, le-ltb, ltb-false, not-false}
+use borrow.Author.Tests.{eq-eqb, ne_eqb, ltb-false, not-false}
+use Rattle.std.specs.Prelude.{⊤}
+use Rattle.std.specs.declared.result.Result.{Result}
+use Rattle.std.specs.declared.result.Result.TheVariants.{Ok, Err}
 use Rattle.theory.specs.Words.{reduced}
 use Rattle.theory.specs.Letters.{letter_bytes, place_in, letter_of, is_letter, line_end, usual, word_length, first_word}
 use Rattle.theory.specs.Refusals.{Refusal as FirstCause, point_limit, is_alphabet, or_else, refused_if, text_refusal}
-use Rattle.theory.specs.Tables.{
-  absent,
-  Cells,
-  cell,
-  end_of,
-  Reading as ReadingOf,
-  stopped,
-  ended,
-  reading_from,
-  is_at,
-  is_accepted,
-}
+use Rattle.theory.specs.Tables.{absent, Cells, cell, end_of, reading_from, is_at, is_accepted}
 use Rattle.theory.specs.Canonical.{Canonical, faulty_cell}
 use Rattle.theory.specs.TableRefusals.{is_lent, at_cell, cell_refusal, member_refusal}
 use Rattle.theory.proofs.RefusalLaws.{alphabet_in, refusal_none}
@@ -38,28 +30,21 @@ use Rattle.theory.proofs.StartLaws.{reduced_shorter}
 use Rattle.theory.proofs.CanonicalLaws.{table_none_canonical}
 use Rattle.theory.proofs.TableRefusalLaws.{else_none, unrefused, no_cell, lent_in, text_alphabet}
 use Rattle.cells.specs.Filled.{filled}
-use Rattle.refusals.specs.Given.{given, given_as, found_as}
+use Rattle.refusals.specs.Given.{unless, unless_short}
+use Rattle.refusals.specs.declared.Cause.TheVariants.{Work}
 use Rattle.refusals.specs.declared.Refusal.{Refusal}
-use Rattle.refusals.specs.declared.Found.{Found}
-use Rattle.refusals.specs.declared.Found.TheVariants.{Cause, Nothing}
-use Rattle.refusals.proofs.FoundLaws.{not_found, found_cause}
+use Rattle.refusals.proofs.UnlessLaws.{unless_ok, unless_err, ok_unless, short_unless, cause_numbered}
+use Rattle.refusals.proofs.StageLaws.{err_any, err_first, ok_next}
 use Rattle.words.specs.Reduction.{reduced_cells, ReducedInto}
 use Rattle.words.specs.declared.Reduced.{Reduced}
 use Rattle.words.proofs.ReduceTurn.{cells_kept}
-use Rattle.lists.specs.Scans.{scanned_as}
-use Rattle.lists.specs.declared.Scanned.{Scanned}
-use Rattle.lists.specs.declared.Scanned.TheVariants.{Refused as ScannedRefused}
-use Rattle.tables.specs.Walks.{walked_as}
+use Rattle.tables.specs.Walks.{walk_of, walked_as}
 use Rattle.tables.specs.declared.Walked.{Walked}
-use Rattle.tables.specs.declared.Walked.TheVariants.{Faulty, Sound}
-use Rattle.tables.proofs.WalkLaws.{walk_sound, walk_faulty}
+use Rattle.tables.proofs.WalkLaws.{walk_ok}
 use Rattle.members.specs.Readings.{read_as, reading_as}
-use Rattle.members.specs.Members.{query_word, answer_for, answer_as, cells_for, cells_after, MemberOutcome}
-use Rattle.members.specs.Stages.{answer_of, late_cause, table_refusal}
-use Rattle.members.specs.declared.Reading.{Reading}
-use Rattle.members.specs.declared.Reading.TheVariants.{Ended}
-use Rattle.members.specs.declared.Answer.{Answer}
-use Rattle.members.specs.declared.Answer.TheVariants.{Refused, Inside, Outside}
+use Rattle.members.specs.Members.{query_word, answer_as, cells_for, cells_after, MemberOutcome}
+use Rattle.members.specs.Stages.{is_at_base, table_refusal}
+use Rattle.members.specs.declared.Stop.{Stop}
 
 -- ── The word of a query ──
 
@@ -95,92 +80,79 @@ cells_start w work = starts (reduced w) (replicate (length w - length (reduced w
 
 -- ── The answer of a reading ──
 
--- a reading that ended at the base
-abbrev at_base : ReadingOf → Bool
-at_base (stopped k v y) = false
-at_base (ended v) = eqb v 0
-
-pub reading_home : (c : Cells) (k v : ℕ) (w : List ℕ) → at_base (reading_from c k v w) ≡ is_at 0 (end_of c v w)
+pub reading_home : (c : Cells) (k v : ℕ) (w : List ℕ) → is_at_base (read_as (reading_from c k v w)) ≡ is_at 0 (end_of c v w)
 unfolding reading_from end_of
 reading_home c k v [] = refl
 reading_home c k v (y ∷ w) =
     by_cases (ℕ_discrete (c v y) absent) (λ e. rw (eq-eqb (c v y) absent e))
     (λ e. rw (ne_eqb (c v y) absent e) (reading_home c (suc k) (c v y) w))
 
-answer_base : (r : ReadingOf) → answer_of (read_as r) ≡ cond (at_base r) Inside Outside
-answer_base (stopped k v y) = refl
-answer_base (ended v) = refl
-
 -- what is said of a reading of the reduced word is what is said of the word
-pub answer_accepted : (n N : ℕ) (t q : List ℕ) → answer_of (reading_as n N t (reduced q)) ≡ cond (is_accepted (cell n N t) q) Inside Outside
+pub answer_accepted : (n N : ℕ) (t q : List ℕ) → is_at_base (reading_as n N t (reduced q)) ≡ is_accepted (cell n N t) q
 unfolding reading_as is_accepted
-answer_accepted n N t q =
-    answer_base (reading_from (cell n N t) 0 0 (reduced q))
-    ∙ ap (λ b. cond b Inside Outside) (reading_home (cell n N t) 0 0 (reduced q))
+answer_accepted n N t q = reading_home (cell n N t) 0 0 (reduced q)
 
-pub answer_home : {r : Reading} {v : ℕ} → r ≡ Ended v → v ≡ 0 → Inside ≡ answer_of r
-answer_home {r} {v} e z = sym (ap answer_of e ∙ ap (λ b. cond b Inside Outside) (eq-eqb v 0 z))
-
-pub answer_away : {r : Reading} {v : ℕ} → r ≡ Ended v → (v ≡ 0 → ⊥) → Outside ≡ answer_of r
-answer_away {r} {v} e z = sym (ap answer_of e ∙ ap (λ b. cond b Inside Outside) (ne_eqb v 0 z))
-
--- ── One cause ──
-
-module _ (k n N : ℕ) (t : List ℕ) (needed room : ℕ) where
-  pub late_short : {r : Refusal} → k ≡ 7 → room < needed → r ≡ given_as 7 needed → Cause r ≡ found_as (late_cause k n N t needed room)
-  unfolding late_cause
-  late_short e h g = ap Cause g ∙ rw (e, lt-ltb room needed h)
-
-  pub late_enough : k ≡ 7 → needed ≤ room → Nothing ≡ found_as (late_cause k n N t needed room)
-  unfolding late_cause
-  late_enough e h = rw (e, le-ltb room needed h)
-
-  pub late_faulty : {w : Walked} {p : ℕ} {r : Refusal} → (k ≡ 7 → ⊥) → w ≡ walked_as n N t → w ≡ Faulty p → r ≡ given_as 8 p → Cause r ≡ found_as (late_cause k n N t needed room)
-  unfolding late_cause cell_refusal
-  late_faulty ne e f g = ap Cause g ∙ rw (ne_eqb k 7 ne, walk_faulty n N t (sym e ∙ f))
-
-  pub late_sound : {w : Walked} {edges : ℕ} {full : Bool} → (k ≡ 7 → ⊥) → w ≡ walked_as n N t → w ≡ Sound edges full → Nothing ≡ found_as (late_cause k n N t needed room)
-  unfolding late_cause cell_refusal
-  late_sound ne e f = rw (ne_eqb k 7 ne, walk_sound n N t (sym e ∙ f))
-
--- ── The first of several ──
+-- ── The table, behind the query: its size, the work, the cells ──
 
 module _ (n N : ℕ) (t : List ℕ) (needed room : ℕ) where
-  pub table_lent : {b : Bool} {r : Refusal} → b ≡ is_lent n N (length t) → b ≡ false → r ≡ given_as 6 0 → Cause r ≡ found_as (table_refusal n N t needed room)
+  abbrev by_size : Option FirstCause
+  by_size = refused_if (not (is_lent n N (length t))) 6 0
+
+  abbrev by_work : Option FirstCause
+  by_work = refused_if (ltb room needed) 7 needed
+
+  -- what `check_table` answers
+  abbrev checked : Result ⊤ Refusal
+  checked = unless (table_refusal n N t needed room) (tt {0})
+
+  pub table_short : {r : Refusal} → Err r ≡ unless by_size (tt {0}) → Err r ≡ checked
   unfolding table_refusal
-  table_lent e f g = ap Cause g ∙ rw (sym e ∙ f)
+  table_short e = err_first by_size (tt {0}) (tt {0}) (or_else by_work (cell_refusal n N t)) e
 
-  module _ (lent : is_lent n N (length t) ≡ true) where
-    late_two : table_refusal n N t needed room ≡ or_else (late_cause 7 n N t needed room) (late_cause 8 n N t needed room)
-    unfolding table_refusal late_cause
-    late_two = rw lent
+  -- the size is fine: work and cells decide
+  module _ {u : ⊤} (l : Ok u ≡ unless by_size (tt {0})) where
+    then_work : {x : Result ⊤ Refusal} → x ≡ unless (or_else by_work (cell_refusal n N t)) (tt {0}) → x ≡ checked
+    unfolding table_refusal
+    then_work e = ok_next by_size (tt {0}) (tt {0}) (or_else by_work (cell_refusal n N t)) l e
 
-    pub table_seven : {f : Found} {r : Refusal} → f ≡ found_as (late_cause 7 n N t needed room) → f ≡ Cause r → Cause r ≡ found_as (table_refusal n N t needed room)
-    table_seven e g =
-        let a = found_cause (late_cause 7 n N t needed room) (sym g ∙ e) in
-        ap Cause a.2 ∙ sym (ap found_as (late_two ∙ ap (λ o. or_else o (late_cause 8 n N t needed room)) a.1))
+    -- the work's test, as a stage
+    as_stage : unless_short Work needed room ≡ unless by_work (tt {0})
+    as_stage = short_unless Work needed room (cause_numbered Work)
 
-    pub table_eight : {f g : Found} → f ≡ found_as (late_cause 7 n N t needed room) → f ≡ Nothing → g ≡ found_as (late_cause 8 n N t needed room) → g ≡ found_as (table_refusal n N t needed room)
-    table_eight e k d =
-        d ∙ sym (ap found_as (late_two ∙ ap (λ o. or_else o (late_cause 8 n N t needed room)) (not_found (late_cause 7 n N t needed room) (sym k ∙ e))))
+    pub table_work : {r : Refusal} → Err r ≡ unless_short Work needed room → Err r ≡ checked
+    table_work e = then_work (err_first by_work (tt {0}) (tt {0}) (cell_refusal n N t) (e ∙ as_stage))
+
+    -- so is the work: the cells decide
+    module _ (w : Ok tt ≡ unless_short Work needed room) where
+      then_cells : {x : Result ⊤ Refusal} → x ≡ unless (cell_refusal n N t) (tt {0}) → x ≡ checked
+      then_cells e = then_work (ok_next by_work (tt {0}) (tt {0}) (cell_refusal n N t) (w ∙ as_stage) e)
+
+      pub table_faulty : {r : Refusal} → Err r ≡ walked_as n N t → Err r ≡ checked
+      unfolding walked_as
+      table_faulty e = then_cells (err_any (cell_refusal n N t) (walk_of n N t) (tt {0}) e)
+
+      pub table_sound : {seen : Walked} → Ok seen ≡ walked_as n N t → Ok tt ≡ checked
+      table_sound e = then_cells (ok_unless (cell_refusal n N t) (tt {0}) (walk_ok n N t e).0)
+
+-- ── The query, then its table ──
 
 module _ (n N : ℕ) (t query : List ℕ) (room : ℕ) where
-  pub query_text : {s : Scanned} {r : Refusal} → s ≡ scanned_as (text_refusal n false query) → s ≡ ScannedRefused r → Cause r ≡ found_as (member_refusal n N t query room)
-  unfolding member_refusal
-  query_text {s} {r} e f = go (text_refusal n false query) refl (sym f ∙ e)
-    where
-      go : (o : Option FirstCause) → text_refusal n false query ≡ o → ScannedRefused r ≡ scanned_as o → Cause r ≡ found_as (member_refusal n N t query room)
-      go none o z = absurd (let y : ◌≡◌ {A = ℕ} 0 1 = cc in omega arith)
-      go (some c) o z = let g : r ≡ given c = cc in ap Cause g ∙ rw o
-
-  pub query_table : {f : Found} → text_refusal n false query ≡ none → f ≡ found_as (table_refusal n N t (length query) room) → f ≡ found_as (member_refusal n N t query room)
+  pub query_text : {r : Refusal} → Err r ≡ unless (text_refusal n false query) (tt {0}) → Err r ≡ unless (member_refusal n N t query room) (tt {0})
   unfolding member_refusal table_refusal
-  query_table e d = d ∙ rw e
+  query_text e = err_first (text_refusal n false query) (tt {0}) (tt {0}) (table_refusal n N t (length query) room) e
 
--- ── Nothing is refused ──
+  pub query_table : {u : ⊤} {x : Result ⊤ Refusal} → Ok u ≡ unless (text_refusal n false query) (tt {0})
+      → x ≡ unless (table_refusal n N t (length query) room) (tt {0}) → x ≡ unless (member_refusal n N t query room) (tt {0})
+  unfolding member_refusal table_refusal
+  query_table e d = ok_next (text_refusal n false query) (tt {0}) (tt {0}) (table_refusal n N t (length query) room) e d
 
 pub alphabet_of_lem : (n : ℕ) (query : List ℕ) → text_refusal n false query ≡ none → is_alphabet n ≡ true
 alphabet_of_lem n query e = text_alphabet n false query e
+
+pub query_alphabet : (n : ℕ) (query : List ℕ) {u : ⊤} → Ok u ≡ unless (text_refusal n false query) (tt {0}) → is_alphabet n ≡ true
+query_alphabet n query e = alphabet_of_lem n query (unless_ok (text_refusal n false query) (tt {0}) e).0
+
+-- ── Nothing is refused ──
 
 pub record Fine (n N : ℕ) (t query : List ℕ) (room : ℕ) : Type 0 where
   pub text : text_refusal n false query ≡ none
@@ -244,27 +216,25 @@ module _ (n N : ℕ) (t query work : List ℕ) where
             length-first_word query ∙ query_length n query (fine n N t query (length work) none-refused).text
 
     -- the query is reduced, read, and the cells are cleared
-    pub decided : {cells : List ℕ} {reading : Reading} {answer : Answer} → reading ≡ reading_as n N t (take r.left after)
-        → cells ≡ filled (length query) 0 after → answer ≡ answer_of reading → MemberOutcome n N t query work answer cells
+    pub decided : {cells : List ℕ} {reading : Result ℕ Stop} {inside : Bool} → reading ≡ reading_as n N t (take r.left after)
+        → cells ≡ filled (length query) 0 after → inside ≡ is_at_base reading → MemberOutcome n N t query work (Ok inside) cells
     unfolding answer_as cells_after filled
     decided read cleared said =
         record {
-          answer = said ∙ ap answer_of (read ∙ ap (reading_as n N t) letters_left) ∙ answer_accepted n N t (query_word query) ∙ sym (ap (answer_for n N t query) none-refused);
+          answer =
+              ap Ok (said ∙ ap is_at_base (read ∙ ap (reading_as n N t) letters_left) ∙ answer_accepted n N t (query_word query))
+              ∙ ok_unless (member_refusal n N t query (length work)) (is_accepted (cell n N t) (query_word query)) none-refused;
           cells =
               cleared
               ∙ ap (λ l. replicate (length query) 0 ++ l) cells_behind
               ∙ sym (ap (cells_for query work) none-refused);
         }
 
-  -- the first cause, or the answer where there is none
-  pub member_refused : {f : Found} {r : Refusal} → f ≡ found_as (member_refusal n N t query (length work)) → f ≡ Cause r → MemberOutcome n N t query work (Refused r) work
+  -- the first cause is the answer
+  pub member_refused : {r : Refusal} → Err r ≡ unless (member_refusal n N t query (length work)) (tt {0}) → MemberOutcome n N t query work (Err r) work
   unfolding answer_as cells_after
-  member_refused {f} {r} e g =
-      let a = found_cause (member_refusal n N t query (length work)) (sym g ∙ e) in
+  member_refused e =
       record {
-        answer = ap Refused a.2 ∙ sym (ap (answer_for n N t query) a.1);
-        cells = sym (ap (cells_for query work) a.1);
+        answer = err_any (member_refusal n N t query (length work)) (tt {0}) (is_accepted (cell n N t) (query_word query)) e;
+        cells = sym (ap (cells_for query work) (unless_err (member_refusal n N t query (length work)) (tt {0}) e).1);
       }
-
-  pub member_fine : {f : Found} → f ≡ found_as (member_refusal n N t query (length work)) → f ≡ Nothing → member_refusal n N t query (length work) ≡ none
-  member_fine e g = not_found (member_refusal n N t query (length work)) (sym g ∙ e)

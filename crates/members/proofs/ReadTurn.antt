@@ -7,15 +7,15 @@ use Prim.Native.Nat.{ℕ, suc, ◌+◌, ◌*◌, ◌≤◌, ◌<◌}
 use native.Mathlib.Decide.{ℕ_discrete}
 use native.Mathlib.Numerals.{add-one}
 use native.Mathlib.Omega.{arith}
-use lib.ListN.{length, get_or, take, drop, drop_of_length-le}
-use lib.Seq.{drop-cons, get_or-take, length-take-le}
+use lib.ListN.{length, get_or, drop, drop_of_length-le}
+use lib.Seq.{drop-cons}
 use borrow.Author.Tests.{eq-eqb, ne_eqb}
+use Rattle.std.specs.declared.result.Result.TheVariants.{Ok, Err}
 use Rattle.theory.specs.Letters.{usual}
 use Rattle.theory.specs.Tables.{absent, Cells, cell, stopped, reading_from, reading_of}
 use Rattle.theory.specs.Canonical.{Canonical}
 use Rattle.theory.proofs.TableLaws.{cell_bounded, length_usual, get_or_usual}
 use Rattle.members.specs.Readings.{read_as, reading_as}
-use Rattle.members.specs.declared.Reading.TheVariants.{Stopped, Ended}
 
 -- ── One cell ──
 
@@ -37,43 +37,38 @@ module _ (c : Cells) (k v y : ℕ) (w : List ℕ) where
   unfolding reading_from
   reading_pass e = rw (ne_eqb (c v y) absent e)
 
-pub record Head (n N : ℕ) (t word : List ℕ) (count i v : ℕ) : Type 0 where
-  pub inside : i ≤ count
+-- i letters lead from the base to v, and the rest is still to be read
+pub record Head (n N : ℕ) (t word : List ℕ) (i v : ℕ) : Type 0 where
   pub here : v < N
-  pub passed : reading_of (cell n N t) (take count word) ≡ reading_from (cell n N t) i v (drop i (take count word))
+  pub passed : reading_of (cell n N t) word ≡ reading_from (cell n N t) i v (drop i word)
 
-module _ {n N : ℕ} {t word : List ℕ} {count : ℕ} where
-  pub head_first : 1 ≤ N → Head n N t word count 0 0
-  head_first h = record { inside = omega arith; here = h; passed = refl }
+module _ {n N : ℕ} {t word : List ℕ} where
+  pub head_first : 1 ≤ N → Head n N t word 0 0
+  head_first h = record { here = h; passed = refl }
 
-  module _ {i v : ℕ} (h : Head n N t word count i v) (l : i < count) (fits : count ≤ length word) where
+  module _ {i v : ℕ} (h : Head n N t word i v) (l : i < length word) where
     -- the next letter stands in front of the rest
-    next : drop i (take count word) ≡ get_or word i 0 ∷ drop (suc i) (take count word)
-    next =
-        drop-cons (take count word) i 0 (omega (arith, length-take-le count word fits))
-        ∙ ap (λ y. y ∷ drop (suc i) (take count word)) (get_or-take count word i 0 l)
+    rest : reading_of (cell n N t) word ≡ reading_from (cell n N t) i v (get_or word i 0 ∷ drop (suc i) word)
+    rest = h.passed ∙ ap (reading_from (cell n N t) i v) (drop-cons word i 0 l)
 
-    rest : reading_of (cell n N t) (take count word) ≡ reading_from (cell n N t) i v (get_or word i 0 ∷ drop (suc i) (take count word))
-    rest = h.passed ∙ ap (reading_from (cell n N t) i v) next
-
-    pub head_turn : {x : ℕ} → Canonical N (usual n) (cell n N t) → x ≡ cell n N t v (get_or word i 0) → (x ≡ absent → ⊥) → Head n N t word count (i + 1) x
+    pub head_turn : {x : ℕ} → Canonical N (usual n) (cell n N t) → x ≡ cell n N t v (get_or word i 0) → (x ≡ absent → ⊥) → Head n N t word (i + 1) x
     head_turn {x} k e ne =
         record {
-          inside = omega arith;
           here = k.within v (get_or word i 0) x (sym e, ne);
           passed =
               rw (add-one i)
               (rest
-              ∙ reading_pass (cell n N t) i v (get_or word i 0) (drop (suc i) (take count word)) (λ z. ne (e ∙ z))
-              ∙ ap (λ u. reading_from (cell n N t) (suc i) u (drop (suc i) (take count word))) (sym e));
+              ∙ reading_pass (cell n N t) i v (get_or word i 0) (drop (suc i) word) (λ z. ne (e ∙ z))
+              ∙ ap (λ u. reading_from (cell n N t) (suc i) u (drop (suc i) word)) (sym e));
         }
 
-    pub head_stop : {x : ℕ} → x ≡ cell n N t v (get_or word i 0) → x ≡ absent → Stopped i v (get_or word i 0) ≡ reading_as n N t (take count word)
+    pub head_stop : {x : ℕ} → x ≡ cell n N t v (get_or word i 0) → x ≡ absent
+        → Err (record { count = i; point = v; letter = get_or word i 0 }) ≡ reading_as n N t word
     unfolding reading_as
     head_stop e z =
-        sym (ap read_as (rest ∙ reading_stop (cell n N t) i v (get_or word i 0) (drop (suc i) (take count word)) (sym e ∙ z)))
+        sym (ap read_as (rest ∙ reading_stop (cell n N t) i v (get_or word i 0) (drop (suc i) word) (sym e ∙ z)))
 
-  pub head_end_lem : {i v : ℕ} → Head n N t word count i v → count ≤ i → count ≤ length word → Ended v ≡ reading_as n N t (take count word)
+  pub head_end_lem : {i v : ℕ} → Head n N t word i v → length word ≤ i → Ok v ≡ reading_as n N t word
   unfolding reading_as reading_from
-  head_end_lem {i} {v} h l fits =
-      sym (ap read_as (h.passed ∙ ap (reading_from (cell n N t) i v) (drop_of_length-le (take count word) {i = i} (omega (arith, length-take-le count word fits)))))
+  head_end_lem {i} {v} h l =
+      sym (ap read_as (h.passed ∙ ap (reading_from (cell n N t) i v) (drop_of_length-le word {i = i} l)))

@@ -1,23 +1,19 @@
 -- `equals::compare` meets its contract. V, then the cells (`EqualLaws`).
 -- Assumes nothing.
 use native.Mathlib.Omega.{arith}
-use Rattle.equals.proofs.EqualLaws.{cells_few, cells_there, points_differ, cells_same, cells_differ}
+use Rattle.equals.proofs.EqualLaws.{fine, cells_there, points_differ, cells_decide}
 use Rattle.equals.proofs.compare.Goals as goal
 
-pub returns-then-points-others : goal.returns-then-points-others
-returns-then-points-others c = record { outcome = points_differ _ _ _ _ _ _ c.requires c.if-points-others.true }
+pub returns-then-a-b : goal.returns-then-a-b
+returns-then-a-b c = record { outcome = points_differ _ _ _ _ _ _ c.requires c.if-a-b.true }
 
-pub overflow_mul-count : goal.overflow_mul-count
-overflow_mul-count c = record { fits = omega (arith, (cells_few _ _ _ _ _ _ c.requires).0) }
-
-pub overflow_mul-count-2 : goal.overflow_mul-count-2
-overflow_mul-count-2 c = record { fits = omega (arith, (cells_few _ _ _ _ _ _ c.requires).1) }
+pub cell_count-requires : goal.cell_count-requires
+cell_count-requires c = let f = fine _ _ _ _ _ _ c.requires in (f.alphabet.1, f.lent.1)
 
 pub same_cells-requires : goal.same_cells-requires
-same_cells-requires c = cells_there _ _ _ _ _ _ c.requires c.if-points-others.false
+same_cells-requires c =
+    let h = cells_there _ _ _ _ _ _ c.requires c.if-a-b.false in
+    (omega (arith, h.0, c.cell_count.ensures.count.0), omega (arith, h.1, c.cell_count.ensures.count.0))
 
-pub returns-then-same_cells : goal.returns-then-same_cells
-returns-then-same_cells c = record { outcome = cells_same _ _ _ _ _ _ c.requires c.if-points-others.false c.same_cells.ensures.same c.if-same_cells.true }
-
-pub returns-else-same_cells : goal.returns-else-same_cells
-returns-else-same_cells c = record { outcome = cells_differ _ _ _ _ _ _ c.requires c.if-points-others.false c.same_cells.ensures.same c.if-same_cells.false }
+pub returns : goal.returns
+returns c = record { outcome = cells_decide _ _ _ _ _ _ c.requires c.if-a-b.false c.cell_count.ensures.count.0 c.same_cells.ensures.same }

@@ -1,7 +1,10 @@
--- `members::member` meets its contract. The first cause, or the answer where there is none (`AnswerLaws`).
+-- `members::member` meets its contract. The first cause is the answer (`AnswerLaws`).
 -- Assumes nothing.
+use Rattle.std.proofs.lemmas.Result.{err_from_is_err_and}
 use Rattle.members.proofs.AnswerLaws.{member_refused}
 use Rattle.members.proofs.member.Goals as goal
 
-pub returns-in-Cause : goal.returns-in-Cause
-returns-in-Cause c = record { outcome = member_refused _ _ _ _ _ c.query_cause.ensures.found c.in-Cause.is }
+pub returns-in_err-check_query : goal.returns-in_err-check_query
+returns-in_err-check_query c =
+    let p = err_from_is_err_and c.from_residual.result c.from_residual.ensures.1 in
+    record { outcome = rw (p.1, p.2) (member_refused _ _ _ _ _ c.in_err-check_query.ensures.checked) }
