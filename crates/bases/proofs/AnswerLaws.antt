@@ -1,8 +1,11 @@
 -- The stages of `basis` on plain values: what is refused, in order, and what is written where nothing is.
---   early_alphabet, early_lent, early_short, early_faulty, early_sound : refusals 1, 6, 7, 8
---   early_fine     : what holds where none of them applies
+--   early_alphabet, early_size, early_room, early_faulty : a refusal at a stage, 1, 6, 7 or 8, is the answer; early_sound : behind all four is none
+--   early_alphabet_held, early_size_held, early_few : what the first two stages tell where they do not refuse
+--   early_none, early_fine : none of them applies, and what holds then
 --   early_refused, late_refused, written : the three outcomes
 --   basis_refusal_first : the computed refusal is the first cause; basis_refusal_none : it is none exactly if no cause applies
+--   basis_numbered      : the causes are those of numbers 1 to 12
+--   answered_first      : an answer that is a computed refusal is the refusal for a cause exactly if that is the first that applies
 -- Assumes nothing.
 use mathlib.Core.Path.{◌≡◌, refl, sym, ◌∙◌, ap, subst}
 use mathlib.Core.Logic.{⊎_elim, ◌↔◌}
@@ -11,13 +14,16 @@ use mathlib.Core.Option.{Option, none, some}
 use mathlib.Core.List.{List, ◌++◌}
 use Prim.Native.Nat.{ℕ, ◌+◌, ◌*◌, ◌≤◌, ◌<◌}
 use native.Mathlib.Omega.{arith}
+use Rattle.std.specs.Prelude.{⊤}
+use Rattle.std.specs.declared.result.Result.{Result}
+use Rattle.std.specs.declared.result.Result.TheVariants.{Ok, Err}
 use lib.Dec.{eqb, ltb}
 use lib.ListN.{length, drop, replicate}
 use lib.Seq.{sets, sets-eq, drop-drop}
 use borrow.Author.Tests.{lt-ltb, le-ltb, ltb-true, ltb-false, not-false}
 use Rattle.theory.specs.Letters.{usual}
-use Rattle.theory.specs.Refusals.{Refusal as FirstCause, turn, First, is_alphabet, or_else, refused_if}
-use Rattle.theory.specs.TableRefusals.{is_lent, at_cell, cell_refusal}
+use Rattle.theory.specs.Refusals.{Refusal as FirstCause, turn, First, Cause1, Cause6Lent, CauseShort, is_alphabet, or_else, refused_if}
+use Rattle.theory.specs.TableRefusals.{Cause8, is_lent, at_cell, cell_refusal}
 use Rattle.theory.specs.Tables.{cell}
 use Rattle.theory.specs.Canonical.{faulty_cell}
 use Rattle.theory.specs.Basis.{scan}
@@ -40,52 +46,87 @@ use Rattle.theory.proofs.TableRefusalLaws.{
   points_small,
 }
 use Rattle.cells.specs.Filled.{filled}
-use Rattle.refusals.specs.Given.{given, given_as, found_as}
+use Rattle.refusals.specs.Given.{number_of, refusal_at, given, unless, unless_short}
+use Rattle.refusals.specs.declared.Cause.{Cause}
+use Rattle.refusals.specs.declared.Cause.TheVariants.{Work, Output}
 use Rattle.refusals.specs.declared.Refusal.{Refusal}
-use Rattle.refusals.specs.declared.Found.{Found}
-use Rattle.refusals.specs.declared.Found.TheVariants.{Cause, Nothing}
-use Rattle.refusals.proofs.FoundLaws.{not_found, found_cause}
-use Rattle.tables.specs.Walks.{walked_as}
+use Rattle.refusals.proofs.UnlessLaws.{unless_ok, unless_err, ok_unless, short_unless}
+use Rattle.refusals.proofs.StageLaws.{err_first, ok_next, held}
+use Rattle.refusals.proofs.NumberLaws.{Numbered, numbered_only, given_first, refusal_given}
+use Rattle.tables.specs.Walks.{walk_of, walked_as}
 use Rattle.tables.specs.declared.Walked.{Walked}
-use Rattle.tables.specs.declared.Walked.TheVariants.{Faulty, Sound}
-use Rattle.tables.proofs.WalkLaws.{walk_sound, walk_faulty}
+use Rattle.tables.proofs.CellTurn.{sizes}
+use Rattle.tables.proofs.WalkLaws.{walk_ok}
+use Rattle.lists.specs.declared.TextSize.{TextSize}
 use Rattle.paths.specs.Paths.{Ready, PathsOutcome}
 use Rattle.bases.specs.Words.{Pathed, text_of, size_in}
-use Rattle.bases.specs.Bases.{basis_words, basis_text, BasisCause, early_refusal, basis_refusal, answer_for, work_for, out_for, BasisOutcome}
-use Rattle.bases.specs.declared.Size.{Size}
-use Rattle.bases.specs.declared.BasisAnswer.{BasisAnswer}
-use Rattle.bases.specs.declared.BasisAnswer.TheVariants.{Refused, Written}
+use Rattle.bases.specs.Bases.{basis_text, BasisCause, early_refusal, basis_refusal, basis_size, work_for, out_for, BasisOutcome}
 use Rattle.bases.proofs.SpotLaws.{basis_scan}
 
 -- ── Refusals 1, 6, 7, 8 ──
 
 module _ (n N : ℕ) (t : List ℕ) (room : ℕ) where
-  pub early_alphabet : {r : Refusal} → is_alphabet n ≡ false → r ≡ given_as 1 0 → Cause r ≡ found_as (early_refusal n N t room none)
+  -- the first three stages; the cells are the fourth
+  abbrev by_alphabet : Option FirstCause
+  by_alphabet = refused_if (not (is_alphabet n)) 1 0
+
+  abbrev by_size : Option FirstCause
+  by_size = refused_if (not (is_lent n N (length t))) 6 0
+
+  abbrev by_room : Option FirstCause
+  by_room = refused_if (ltb room (4 * N)) 7 (4 * N)
+
+  pub early_alphabet : {r : Refusal} → Err r ≡ unless by_alphabet (tt {0}) → Err r ≡ unless (early_refusal n N t room none) (tt {0})
   unfolding early_refusal
-  early_alphabet a g = ap Cause g ∙ rw a
+  early_alphabet e = err_first by_alphabet (tt {0}) (tt {0}) (or_else by_size (or_else by_room (or_else (cell_refusal n N t) none))) e
 
-  module _ (a : is_alphabet n ≡ true) where
-    pub early_lent : {b : Bool} {r : Refusal} → b ≡ is_lent n N (length t) → b ≡ false → r ≡ given_as 6 0
-        → Cause r ≡ found_as (early_refusal n N t room none)
+  -- the alphabet is fine: size, room and cells decide
+  module _ {u : ⊤} (a : Ok u ≡ unless by_alphabet (tt {0})) where
+    then_size : {x : Result ⊤ Refusal} → x ≡ unless (or_else by_size (or_else by_room (or_else (cell_refusal n N t) none))) (tt {0})
+        → x ≡ unless (early_refusal n N t room none) (tt {0})
     unfolding early_refusal
-    early_lent e f g = ap Cause g ∙ rw (a, sym e ∙ f)
+    then_size e = ok_next by_alphabet (tt {0}) (tt {0}) (or_else by_size (or_else by_room (or_else (cell_refusal n N t) none))) a e
 
-    module _ (l : is_lent n N (length t) ≡ true) where
-      pub early_short : {r : Refusal} → room < 4 * N → r ≡ given_as 7 (4 * N) → Cause r ≡ found_as (early_refusal n N t room none)
-      unfolding early_refusal
-      early_short h g = ap Cause g ∙ rw (a, l, lt-ltb room (4 * N) h)
+    pub early_size : {r : Refusal} → Err r ≡ unless by_size (tt {0}) → Err r ≡ unless (early_refusal n N t room none) (tt {0})
+    early_size e = then_size (err_first by_size (tt {0}) (tt {0}) (or_else by_room (or_else (cell_refusal n N t) none)) e)
 
-      pub early_faulty : {w : Walked} {p : ℕ} {r : Refusal} → 4 * N ≤ room → w ≡ walked_as n N t → w ≡ Faulty p → r ≡ given_as 8 p
-          → Cause r ≡ found_as (early_refusal n N t room none)
-      unfolding early_refusal cell_refusal
-      early_faulty h e f g = ap Cause g ∙ rw (a, l, le-ltb room (4 * N) h, walk_faulty n N t (sym e ∙ f))
+    pub early_alphabet_held : is_alphabet n ≡ true
+    early_alphabet_held = held (is_alphabet n) 1 0 a
 
-      pub early_sound : {w : Walked} {edges : ℕ} {full : Bool} → 4 * N ≤ room → w ≡ walked_as n N t → w ≡ Sound edges full
-          → Nothing ≡ found_as (early_refusal n N t room none)
-      unfolding early_refusal cell_refusal
-      early_sound h e f = rw (a, l, le-ltb room (4 * N) h, walk_sound n N t (sym e ∙ f))
+    -- so is the size: room and cells decide
+    module _ {v : ⊤} (l : Ok v ≡ unless by_size (tt {0})) where
+      then_room : {x : Result ⊤ Refusal} → x ≡ unless (or_else by_room (or_else (cell_refusal n N t) none)) (tt {0})
+          → x ≡ unless (early_refusal n N t room none) (tt {0})
+      then_room e = then_size (ok_next by_size (tt {0}) (tt {0}) (or_else by_room (or_else (cell_refusal n N t) none)) l e)
+
+      pub early_room : {r : Refusal} → Err r ≡ unless_short Work (4 * N) room → Err r ≡ unless (early_refusal n N t room none) (tt {0})
+      early_room e =
+          then_room (err_first by_room (tt {0}) (tt {0}) (or_else (cell_refusal n N t) none) (e ∙ short_unless Work (4 * N) room refl))
+
+      pub early_size_held : is_lent n N (length t) ≡ true
+      early_size_held = held (is_lent n N (length t)) 6 0 l
+
+      pub early_few : N ≤ 1048577
+      early_few = (sizes early_alphabet_held early_size_held).points
+
+      -- so is the room: the cells decide
+      module _ {w : ⊤} (m : Ok w ≡ unless_short Work (4 * N) room) where
+        then_cells : {x : Result ⊤ Refusal} → x ≡ unless (or_else (cell_refusal n N t) none) (tt {0})
+            → x ≡ unless (early_refusal n N t room none) (tt {0})
+        then_cells e =
+            then_room (ok_next by_room (tt {0}) (tt {0}) (or_else (cell_refusal n N t) none) (m ∙ short_unless Work (4 * N) room refl) e)
+
+        pub early_faulty : {r : Refusal} → Err r ≡ walked_as n N t → Err r ≡ unless (early_refusal n N t room none) (tt {0})
+        unfolding walked_as
+        early_faulty e = then_cells (err_first (cell_refusal n N t) (walk_of n N t) (tt {0}) none e)
+
+        pub early_sound : {walked : Walked} → Ok walked ≡ walked_as n N t → Ok (tt {0}) ≡ unless (early_refusal n N t room none) (tt {0})
+        early_sound e = then_cells (ok_unless (or_else (cell_refusal n N t) none) (tt {0}) (ap (λ o. or_else o none) (walk_ok n N t e).0))
 
   -- none of them applies
+  pub early_none : {u : ⊤} → Ok u ≡ unless (early_refusal n N t room none) (tt {0}) → early_refusal n N t room none ≡ none
+  early_none e = (unless_ok (early_refusal n N t room none) (tt {0}) e).0
+
   pub early_fine : early_refusal n N t room none ≡ none → Ready n N t room × (4 * N ≤ room)
   unfolding early_refusal cell_refusal
   early_fine e =
@@ -135,11 +176,11 @@ early_not9 n N t room = go (not (is_alphabet n)) (not (is_lent n N (length t))) 
 
 module _ (n N : ℕ) (t work out : List ℕ) where
   -- the answer and the buffers of a refusal known
-  told : (o : Option FirstCause) {r : BasisAnswer} {work' out' : List ℕ} → basis_refusal n N t (length work) (length out) ≡ o → r ≡ answer_for n N t o
-      → work' ≡ work_for N work o → out' ≡ out_for (basis_text n N t) out o → BasisOutcome n N t work out r work' out'
+  told : (o : Option FirstCause) {r : Result TextSize Refusal} {work' out' : List ℕ} → basis_refusal n N t (length work) (length out) ≡ o
+      → r ≡ unless o (basis_size n N t) → work' ≡ work_for N work o → out' ≡ out_for (basis_text n N t) out o → BasisOutcome n N t work out r work' out'
   told o e a b d =
       record {
-        answer = a ∙ sym (ap (answer_for n N t) e);
+        answer = a ∙ sym (ap (λ o. unless o (basis_size n N t)) e);
         cells = b ∙ sym (ap (work_for N work) e);
         text = d ∙ sym (ap (out_for (basis_text n N t) out) e);
       }
@@ -148,18 +189,14 @@ module _ (n N : ℕ) (t work out : List ℕ) where
   abbrev late : Option FirstCause
   late = refused_if (ltb (length out) (length (basis_text n N t))) 9 (length (basis_text n N t))
 
-  pub early_refused : {f : Found} {r : Refusal} → f ≡ found_as (early_refusal n N t (length work) none) → f ≡ Cause r
-      → BasisOutcome n N t work out (Refused r) work out
+  pub early_refused : {r : Refusal} → Err r ≡ unless (early_refusal n N t (length work) none) (tt {0}) → BasisOutcome n N t work out (Err r) work out
   unfolding basis_refusal
-  early_refused {f} {r} e g =
-      let a = found_cause (early_refusal n N t (length work) none) (sym g ∙ e) in
+  early_refused {r} e =
+      let a = unless_err (early_refusal n N t (length work) none) (tt {0}) e in
       go a.0 a.1 a.2 (subst Not9 a.1 (early_not9 n N t (length work)))
     where
-      go : (k : FirstCause) → early_refusal n N t (length work) none ≡ some k → r ≡ given k → Not9 (some k) → BasisOutcome n N t work out (Refused r) work out
-      go k q z m = told (some k) (early_else n N t (length work) late ∙ ap (λ o. or_else o late) q) (ap Refused z) (sym (rw m)) refl
-
-  pub early_none : {f : Found} → f ≡ found_as (early_refusal n N t (length work) none) → f ≡ Nothing → early_refusal n N t (length work) none ≡ none
-  early_none e g = not_found (early_refusal n N t (length work) none) (sym g ∙ e)
+      go : (k : FirstCause) → early_refusal n N t (length work) none ≡ some k → r ≡ given k → Not9 (some k) → BasisOutcome n N t work out (Err r) work out
+      go k q z m = told (some k) (early_else n N t (length work) late ∙ ap (λ o. or_else o late) q) (ap Err z) (sym (rw m)) refl
 
   -- the text of all spots is that of the basis
   pub whole_text : text_of (cell n N t) N (usual n) (scan N (usual n)) ≡ basis_text n N t
@@ -192,35 +229,50 @@ module _ (n N : ℕ) (t work out : List ℕ) where
     unfolding basis_refusal
     late_is = early_else n N t (length work) late ∙ ap (λ o. or_else o late) fine
 
-    module _ {size : Size} (s : size ≡ size_in (cell n N t) N (usual n) (scan N (usual n))) where
+    module _ {size : TextSize} (s : size ≡ size_in (cell n N t) N (usual n) (scan N (usual n))) where
       bytes_are : size.bytes ≡ length (basis_text n N t)
       unfolding size_in
-      bytes_are = ap (λ (a : Size). a.bytes) s ∙ ap length whole_text
+      bytes_are = ap (λ (a : TextSize). a.bytes) s ∙ ap length whole_text
 
-      words_are : size.words ≡ length (basis_words n N t)
+      size_is : size ≡ basis_size n N t
       unfolding size_in
-      words_are = ap (λ (a : Size). a.words) s ∙ ap length (basis_scan (cell n N t) N (usual n))
+      size_is =
+          s ∙ (λ i. record { words = length (basis_scan (cell n N t) N (usual n) i); bytes = length (whole_text i) })
 
       pub fits : size.bytes ≤ length out → length (text_of (cell n N t) N (usual n) (scan N (usual n))) ≤ length out
       fits h = omega (arith, bytes_are, ap length whole_text)
 
-      pub late_refused : {r : Refusal} {cells : List ℕ} → length out < size.bytes → r ≡ given_as 9 size.bytes → cells ≡ filled (4 * N) 0 after
-          → BasisOutcome n N t work out (Refused r) cells out
+      pub late_refused : {r : Refusal} {cells : List ℕ} → length out < size.bytes → r ≡ refusal_at Output size.bytes → cells ≡ filled (4 * N) 0 after
+          → BasisOutcome n N t work out (Err r) cells out
       late_refused {r} {cells} h g e =
           told (some (record { number = 9; place = length (basis_text n N t) }))
           (late_is ∙ ap (λ b. refused_if b 9 (length (basis_text n N t))) (lt-ltb (length out) (length (basis_text n N t)) (omega (arith, bytes_are))))
-          (ap Refused (g ∙ ap (given_as 9) bytes_are)) (cleared e) refl
+          (ap Err (g ∙ ap (refusal_at Output) bytes_are)) (cleared e) refl
 
       pub written : {cells text : List ℕ} → size.bytes ≤ length out → text ≡ sets out 0 (text_of (cell n N t) N (usual n) (scan N (usual n)))
-          → cells ≡ filled (4 * N) 0 after → BasisOutcome n N t work out (Written size.words size.bytes) cells text
+          → cells ≡ filled (4 * N) 0 after → BasisOutcome n N t work out (Ok size) cells text
       written {cells} {text} h w e =
           told none
           (late_is ∙ ap (λ b. refused_if b 9 (length (basis_text n N t))) (le-ltb (length out) (length (basis_text n N t)) (omega (arith, bytes_are))))
-          (λ i. Written (words_are i) (bytes_are i)) (cleared e)
+          (ap Ok size_is) (cleared e)
           (w ∙ ap (sets out 0) whole_text ∙ sets-eq (basis_text n N t) out 0 (omega (arith, bytes_are))
           ∙ ap (λ k. basis_text n N t ++ drop k out) (let z : 0 + length (basis_text n N t) ≡ length (basis_text n N t) = omega arith in z))
 
 -- ── The first cause ──
+
+-- an answer of which the refusal is the first of some causes, all with a number
+module _ {A : Type 0} (C : ℕ → ℕ → Type 0) (o : Option FirstCause) (a : A)
+    (first : (k p : ℕ) → (o ≡ some (record { number = k; place = p })) ↔ First C k p)
+    (numbered : (k p : ℕ) → C k p → Numbered k) where
+  pub answered_first : {r : Result A Refusal} → r ≡ unless o a → (cause : Cause) (p : ℕ)
+      → (r ≡ Err (refusal_at cause p)) ↔ First C (number_of cause) p
+  answered_first {r} e cause p = (forth, λ f. e ∙ ap (λ o. unless o a) ((first (number_of cause) p).1 f) ∙ ap Err (refusal_given cause p))
+    where
+      forth : r ≡ Err (refusal_at cause p) → First C (number_of cause) p
+      forth q =
+          let u = unless_err o a (sym q ∙ e) in
+          let f = (first u.0.number u.0.place).0 u.1 in
+          (first (number_of cause) p).0 (u.1 ∙ given_first u.0 cause p (numbered u.0.number u.0.place f.applies) (sym u.2))
 
 module _ (n N : ℕ) (t : List ℕ) (room space : ℕ) where
   basis_decides : Decides (BasisCause n N t room space) (basis_refusal n N t room space)
@@ -247,3 +299,10 @@ module _ (n N : ℕ) (t : List ℕ) (room space : ℕ) where
 
   pub basis_refusal_none : (basis_refusal n N t room space ≡ none) ↔ ((k p : ℕ) → BasisCause n N t room space k p → ⊥)
   basis_refusal_none = decided_none basis_decides
+
+  pub basis_numbered : (k p : ℕ) → BasisCause n N t room space k p → Numbered k
+  basis_numbered k p =
+      ⊎_elim (numbered_only {k = k} {p = p} 1 (Cause1 n) refl)
+      (⊎_elim (numbered_only {k = k} {p = p} 6 (Cause6Lent n N (length t)) refl)
+      (⊎_elim (numbered_only {k = k} {p = p} 7 (CauseShort (4 * N) room) refl)
+      (⊎_elim (numbered_only {k = k} {p = p} 8 (Cause8 n N t) refl) (numbered_only {k = k} {p = p} 9 (CauseShort (length (basis_text n N t)) space) refl))))

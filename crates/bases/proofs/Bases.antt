@@ -1,6 +1,6 @@
 -- What a caller learns from an outcome of `basis` (document 01). The written words are those of the bytes written, words_of (take bytes out').
 --   Expresses ws ks q      <-> ks names words of ws or their inverses, none beside its own inverse, and their product reduces to q
---   refused_by_first_cause  : a table is refused by a number at a place exactly if that is the first cause that applies
+--   refused_by_first_cause  : a table is refused by a cause at a place exactly if that is the first that applies
 --   every_table_written     : where no cause applies a basis is written
 --   written_canonical       : a basis is written of a canonical table only, over 1 to 26 generators; written_lent : with all its cells
 --   written_text            : the bytes written are the basis as a list text, and what stands behind them is as it was
@@ -17,16 +17,18 @@
 use mathlib.Core.Path.{◌≡◌, refl, sym, ◌∙◌, ap, subst}
 use mathlib.Core.Logic.{◌↔◌}
 use mathlib.Core.Bool.{true}
-use mathlib.Core.Option.{Option, none, some}
+use mathlib.Core.Option.{none, some}
 use mathlib.Core.List.{List, [], ◌++◌}
 use Prim.Native.Nat.{ℕ, ◌*◌, ◌≤◌, ◌<◌}
 use native.Mathlib.Omega.{arith}
+use Rattle.std.specs.declared.result.Result.{Result}
+use Rattle.std.specs.declared.result.Result.TheVariants.{Ok, Err}
 use lib.IntN.{ℤ}
 use lib.ListN.{length, take, drop}
 use lib.Seq.{take_at, drop_at}
 use Rattle.theory.specs.Words.{◌≈◌, product, AllNames, Tidy, SameSubgroup}
 use Rattle.theory.specs.Letters.{usual, words_of}
-use Rattle.theory.specs.Refusals.{Refusal as FirstCause, text_limit, First, text_refusal}
+use Rattle.theory.specs.Refusals.{text_limit, First, text_refusal}
 use Rattle.theory.specs.Tables.{cell, Accepts}
 use Rattle.theory.specs.Canonical.{Canonical}
 use Rattle.theory.specs.Basis.{expression_of, rank_of}
@@ -43,13 +45,14 @@ use Rattle.theory.proofs.Main.{
 }
 use Rattle.theory.proofs.ExpressionLaws.{basis_generates, basis_accepts}
 use Rattle.theory.proofs.ListTexts.{words_of_text, text_fine, text_long, basis_below}
-use Rattle.refusals.specs.Given.{given, given_as}
+use Rattle.refusals.specs.Given.{number_of, refusal_at, unless}
+use Rattle.refusals.specs.declared.Cause.{Cause}
 use Rattle.refusals.specs.declared.Refusal.{Refusal}
+use Rattle.refusals.proofs.UnlessLaws.{unless_ok}
+use Rattle.lists.specs.declared.TextSize.{TextSize}
 use Rattle.paths.specs.Paths.{Ready}
-use Rattle.bases.specs.Bases.{basis_words, basis_text, BasisCause, early_refusal, basis_refusal, answer_for, out_for, BasisOutcome}
-use Rattle.bases.specs.declared.BasisAnswer.{BasisAnswer}
-use Rattle.bases.specs.declared.BasisAnswer.TheVariants.{Refused, Written}
-use Rattle.bases.proofs.AnswerLaws.{early_fine, early_else, basis_refusal_first, basis_refusal_none}
+use Rattle.bases.specs.Bases.{basis_words, basis_text, BasisCause, early_refusal, basis_refusal, basis_size, out_for, BasisOutcome}
+use Rattle.bases.proofs.AnswerLaws.{early_fine, early_else, answered_first, basis_refusal_first, basis_refusal_none, basis_numbered}
 
 pub record Expresses (ws : List (List ℕ)) (ks : List ℤ) (q : List ℕ) : Type 0 where
   pub named : AllNames (length ws) ks
@@ -58,43 +61,30 @@ pub record Expresses (ws : List (List ℕ)) (ks : List ℤ) (q : List ℕ) : Typ
 
 -- ── Refusals ──
 
-module _ (n N : ℕ) (t work out : List ℕ) (r : BasisAnswer) (work' out' : List ℕ) (h : BasisOutcome n N t work out r work' out') where
-  pub refused_by_first_cause : (k p : ℕ)
-      → (r ≡ Refused (given_as k p)) ↔ First (BasisCause n N t (length work) (length out)) k p
-  refused_by_first_cause k p =
-      let first = basis_refusal_first n N t (length work) (length out) k p in
-      (λ e. first.0 (go (basis_refusal n N t (length work) (length out)) refl e), λ c. h.answer ∙ ap (answer_for n N t) (first.1 c))
-    where
-      go : (o : Option FirstCause) → basis_refusal n N t (length work) (length out) ≡ o → r ≡ Refused (given_as k p)
-          → basis_refusal n N t (length work) (length out) ≡ some (record { number = k; place = p })
-      go none q e = let d = sym e ∙ h.answer ∙ ap (answer_for n N t) q in let z : ◌≡◌ {A = ℕ} 0 1 = cc in absurd (omega arith)
-      go (some f) q e =
-          let d = sym e ∙ h.answer ∙ ap (answer_for n N t) q in
-          let same : given f ≡ given_as k p = cc in
-          let number : f.number ≡ k = ap (λ (b : Refusal). b.number) same in
-          let place : f.place ≡ p = ap (λ (b : Refusal). b.place) same in
-          q ∙ ap some (λ i. record { number = number i; place = place i })
+module _ (n N : ℕ) (t work out : List ℕ) (r : Result TextSize Refusal) (work' out' : List ℕ) (h : BasisOutcome n N t work out r work' out') where
+  pub refused_by_first_cause : (cause : Cause) (p : ℕ)
+      → (r ≡ Err (refusal_at cause p)) ↔ First (BasisCause n N t (length work) (length out)) (number_of cause) p
+  refused_by_first_cause =
+      answered_first (BasisCause n N t (length work) (length out)) (basis_refusal n N t (length work) (length out)) (basis_size n N t)
+      (basis_refusal_first n N t (length work) (length out)) (basis_numbered n N t (length work) (length out)) h.answer
 
   pub every_table_written : ((k p : ℕ) → BasisCause n N t (length work) (length out) k p → ⊥)
-      → (words : ℕ) × (bytes : ℕ) × (r ≡ Written words bytes)
+      → (words : ℕ) × (bytes : ℕ) × (r ≡ Ok (record { words = words; bytes = bytes }))
   every_table_written f = (
     length (basis_words n N t),
     length (basis_text n N t),
-    h.answer ∙ ap (answer_for n N t) ((basis_refusal_none n N t (length work) (length out)).1 f),
+    h.answer ∙ ap (λ o. unless o (basis_size n N t)) ((basis_refusal_none n N t (length work) (length out)).1 f),
   )
 
 -- ── What is written ──
 
 module _ (n N : ℕ) (t work out : List ℕ) (words bytes : ℕ) (work' out' : List ℕ)
-    (h : BasisOutcome n N t work out (Written words bytes) work' out') where
+    (h : BasisOutcome n N t work out (Ok (record { words = words; bytes = bytes })) work' out') where
   -- nothing is refused, and the sizes are those of the basis
   answered : (basis_refusal n N t (length work) (length out) ≡ none) × (words ≡ length (basis_words n N t)) × (bytes ≡ length (basis_text n N t))
-  answered = go (basis_refusal n N t (length work) (length out)) refl h.answer
-    where
-      go : (o : Option FirstCause) → basis_refusal n N t (length work) (length out) ≡ o → Written words bytes ≡ answer_for n N t o
-          → (basis_refusal n N t (length work) (length out) ≡ none) × (words ≡ length (basis_words n N t)) × (bytes ≡ length (basis_text n N t))
-      go none e a = (e, cc, cc)
-      go (some f) e a = let z : ◌≡◌ {A = ℕ} 0 1 = cc in absurd (omega arith)
+  answered =
+      let a = unless_ok (basis_refusal n N t (length work) (length out)) (basis_size n N t) h.answer in
+      (a.0, ap (λ (s : TextSize). s.words) a.1, ap (λ (s : TextSize). s.bytes) a.1)
 
   ready : Ready n N t (length work)
   unfolding basis_refusal

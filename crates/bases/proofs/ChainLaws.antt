@@ -1,25 +1,24 @@
 -- Paths followed up through the cells (`specs/Chains`), and the loops that write them, on plain values.
 --   sets_append, sets_before : runs of stores, one behind the other and one before the other
---   step_base, step_other, step_last : the test for a last step
---   Up   <-> of the path of v the letters behind the first `left` are written; up_first, up_turn, up_done
---   Back <-> of the inverse of the path of x all but the last `left` letters are written; back_first, back_turn, back_done
+--   Up   <-> of the path of v, that stands from byte `at` on, the letters from byte i on are written; up_first, up_turn, up_done
+--   Back <-> of the inverse of the path of x the first i letters are written; back_first, back_turn, back_done
+--   part_length, part_written : a part of the bytes, and one that is written whole
 --   line_done : the line of a basis word from its parts
 -- Assumes nothing.
 use mathlib.Core.Path.{◌≡◌, refl, sym, ◌∙◌, ap, subst}
-use mathlib.Core.Bool.{false}
 use mathlib.Core.List.{List, [], ◌∷◌, ◌++◌, map, append_assoc, append-nil}
 use Prim.Native.Nat.{ℕ, zero, suc, ◌+◌, ◌-◌, ◌≤◌, ◌<◌}
 use native.Mathlib.Nat.{add-zero}
+use native.Mathlib.Numerals.{add-one}
 use native.Mathlib.Omega.{arith}
-use lib.Dec.{eqb}
-use lib.ListN.{length, get_or, set, length-append, length-map, length-set}
-use lib.Seq.{sets, length-sets, set_comm}
-use borrow.Author.Tests.{eq-eqb, ne_eqb}
+use lib.ListN.{length, get_or, set, take, drop, length-append, length-map, length-set, length-take, length-drop}
+use lib.Seq.{sets, sets-eq, length-sets, set_comm, take-suc-set, take-length, drop-drop}
+use borrow.Rule.Slice.PartMut.{put_mid}
 use Rattle.theory.specs.Words.{inv, inverse_by, inverse_of}
 use Rattle.theory.specs.Letters.{byte_of, line_end}
 use Rattle.theory.proofs.WordLaws.{letters, inverse_append}
 use Rattle.theory.proofs.BasisLaws.{length_inverse}
-use Rattle.bases.specs.Chains.{depth_of, noted_path, Chain, is_noted_step, path_bytes, back_bytes, loop_bytes}
+use Rattle.bases.specs.Chains.{depth_of, noted_path, Chain, path_bytes, back_bytes, loop_bytes}
 
 -- ── Runs of stores ──
 
@@ -37,21 +36,6 @@ sets_before l k x i (b ∷ a) h =
 pub map-append : (f : ℕ → ℕ) (a b : List ℕ) → map f (a ++ b) ≡ map f a ++ map f b
 map-append f [] b = refl
 map-append f (x ∷ a) b = ap (λ l. f x ∷ l) (map-append f a b)
-
--- ── The test for a last step ──
-
-module _ (N : ℕ) (work : List ℕ) (v y x : ℕ) where
-  pub step_base : x ≡ 0 → false ≡ is_noted_step N work v y x
-  unfolding is_noted_step
-  step_base e = sym (rw (eq-eqb x 0 e))
-
-  pub step_other : (x ≡ 0 → ⊥) → (get_or work x 0 ≡ v → ⊥) → false ≡ is_noted_step N work v y x
-  unfolding is_noted_step
-  step_other e f = sym (rw (ne_eqb x 0 e, ne_eqb (get_or work x 0) v f))
-
-  pub step_last : (x ≡ 0 → ⊥) → get_or work x 0 ≡ v → eqb (get_or work (N + x) 0) y ≡ is_noted_step N work v y x
-  unfolding is_noted_step
-  step_last e f = sym (rw (ne_eqb x 0 e, eq-eqb (get_or work x 0) v f))
 
 -- ── Lengths ──
 
@@ -109,135 +93,143 @@ inverse_small y h = omega arith
 
 -- ── A path, written backwards ──
 
-pub record Up (N : ℕ) (work : List ℕ) (d v at : ℕ) (old : List ℕ) (left p : ℕ) (out : List ℕ) : Type 0 where
+pub record Up (N : ℕ) (work : List ℕ) (d v at : ℕ) (old : List ℕ) (i p : ℕ) (out : List ℕ) : Type 0 where
+  pub left : ℕ
+  pub place : i ≡ at + left
   pub tail : List ℕ
   pub whole : noted_path N work d v ≡ noted_path N work left p ++ tail
-  pub wrote : out ≡ sets old (at + left) (map byte_of tail)
+  pub wrote : out ≡ sets old i (map byte_of tail)
   pub chain : Chain N work left p
-  pub low : left ≤ d
 
 module _ {N : ℕ} {work : List ℕ} {d v at : ℕ} {old : List ℕ} where
-  pub up_first : {left : ℕ} → left ≡ d → Chain N work d v → Up N work d v at old left v old
-  up_first {left} e c =
-      subst (λ k. Up N work d v at old k v old) (sym e)
-      (record { tail = []; whole = sym (append-nil (noted_path N work d v)); wrote = refl; chain = c; low = omega arith })
+  pub up_first : {i : ℕ} → i ≡ at + d → Chain N work d v → Up N work d v at old i v old
+  up_first e c =
+      record { left = d; place = e; tail = []; whole = sym (append-nil (noted_path N work d v)); wrote = refl; chain = c }
 
-  module _ {left p : ℕ} {out : List ℕ} (h : Up N work d v at old left p out) where
-    pub up_length : length out ≡ length old
-    up_length = ap length h.wrote ∙ length-sets old (at + left) (map byte_of h.tail)
-
-    at_suc : (j : ℕ) → left ≡ suc j → Up N work d v at old (suc j) p out
-    at_suc j e = subst (λ k. Up N work d v at old k p out) e h
-
-    pub up_link : 0 < left → (p < N) × (get_or work (N + p) 0 < 52)
-    up_link l = let k = (at_suc (left - 1) (omega arith)).chain in (k.0, k.1)
-
-    pub up_turn : {b : ℕ} → 0 < left → b ≡ byte_of (get_or work (N + p) 0) → Up N work d v at old (left - 1) (get_or work p 0) (set out (at + (left - 1)) b)
-    up_turn {b} l e = go (left - 1) (at_suc (left - 1) (omega arith))
+  module _ {i p : ℕ} {out : List ℕ} (h : Up N work d v at old i p out) where
+    up_more : at < i → (j : ℕ) × (h.left ≡ suc j) × Chain N work (suc j) p
+    up_more l = (h.left - 1, e, subst (λ k. Chain N work k p) e h.chain)
       where
-        go : (j : ℕ) → Up N work d v at old (suc j) p out → Up N work d v at old j (get_or work p 0) (set out (at + j) b)
-        go j k = step
-          where
-            y : ℕ
-            y = get_or work (N + p) 0
+        e : h.left ≡ suc (h.left - 1)
+        e = omega (arith, h.place)
 
-            split : noted_path N work (suc j) p ≡ noted_path N work j (get_or work p 0) ++ (y ∷ [])
-            split = noted_more N work p j
+    pub up_link : at < i → (p < N) × (get_or work (N + p) 0 < 52)
+    up_link l = let m = up_more l in (m.2.0, m.2.1)
 
-            step : Up N work d v at old j (get_or work p 0) (set out (at + j) b)
-            step =
-                record {
-                  tail = y ∷ k.tail;
-                  whole = k.whole ∙ ap (λ l. l ++ k.tail) split ∙ append_assoc (noted_path N work j (get_or work p 0)) (y ∷ []) k.tail;
-                  wrote =
-                      ap (λ l. set l (at + j) b) k.wrote
-                      ∙ sets_before old (at + j) b (at + suc j) (map byte_of k.tail) (omega arith)
-                      ∙ ap (λ i. sets (set old (at + j) b) i (map byte_of k.tail)) (let q : at + suc j ≡ suc (at + j) = omega arith in q)
-                      ∙ ap (λ z. sets (set old (at + j) z) (suc (at + j)) (map byte_of k.tail)) e;
-                  chain = k.chain.2;
-                  low = omega (arith, k.low);
-                }
-
-    pub up_done : left ≤ 0 → out ≡ sets old at (map byte_of (noted_path N work d v))
-    up_done l = go (subst (λ k. Up N work d v at old k p out) (let e : left ≡ 0 = omega arith in e) h)
+    pub up_turn : {b : ℕ} → at < i → b ≡ byte_of (get_or work (N + p) 0) → Up N work d v at old (i - 1) (get_or work p 0) (set out (i - 1) b)
+    up_turn {b} l e =
+        record {
+          left = j;
+          place = omega (arith, h.place, m.1);
+          tail = y ∷ h.tail;
+          whole =
+              h.whole
+              ∙ ap (λ k. noted_path N work k p ++ h.tail) m.1
+              ∙ ap (λ l. l ++ h.tail) (noted_more N work p j)
+              ∙ append_assoc (noted_path N work j (get_or work p 0)) (y ∷ []) h.tail;
+          wrote =
+              ap (λ l. set l (i - 1) b) h.wrote
+              ∙ sets_before old (i - 1) b i (map byte_of h.tail) (omega arith)
+              ∙ ap (λ k. sets (set old (i - 1) b) k (map byte_of h.tail)) (let q : i ≡ suc (i - 1) = omega arith in q)
+              ∙ ap (λ z. sets (set old (i - 1) z) (suc (i - 1)) (map byte_of h.tail)) e;
+          chain = m.2.2;
+        }
       where
-        go : Up N work d v at old 0 p out → out ≡ sets old at (map byte_of (noted_path N work d v))
-        go k =
-            k.wrote
-            ∙ ap (λ i. sets old i (map byte_of k.tail)) (add-zero at)
-            ∙ ap (λ l. sets old at (map byte_of l)) (sym (k.whole ∙ ap (λ l. l ++ k.tail) (noted_none N work p)))
+        m : (j : ℕ) × (h.left ≡ suc j) × Chain N work (suc j) p
+        m = up_more l
+
+        j : ℕ
+        j = m.0
+
+        y : ℕ
+        y = get_or work (N + p) 0
+
+    pub up_done : i ≤ at → out ≡ sets old at (map byte_of (noted_path N work d v))
+    up_done l =
+        h.wrote
+        ∙ ap (λ k. sets old k (map byte_of h.tail)) (let e : i ≡ at = omega (arith, h.place) in e)
+        ∙ ap (λ l. sets old at (map byte_of l)) (sym (h.whole ∙ ap (λ k. noted_path N work k p ++ h.tail) none_left ∙ ap (λ l. l ++ h.tail) (noted_none N work p)))
+      where
+        none_left : h.left ≡ 0
+        none_left = omega (arith, h.place)
 
 -- ── The inverse of a path, written onwards ──
 
-pub record Back (N : ℕ) (work : List ℕ) (d x at : ℕ) (old : List ℕ) (left p to : ℕ) (out : List ℕ) : Type 0 where
+pub record Back (N : ℕ) (work : List ℕ) (d x i p : ℕ) (cells : List ℕ) : Type 0 where
+  pub left : ℕ
+  pub sum : i + left ≡ d
   pub front : List ℕ
   pub whole : inverse_of (noted_path N work d x) ≡ front ++ inverse_of (noted_path N work left p)
-  pub wrote : out ≡ sets old at (map byte_of front)
-  pub place : to ≡ at + length front
-  pub sum : length front + left ≡ d
+  pub wrote : take i cells ≡ map byte_of front
   pub chain : Chain N work left p
 
-module _ {N : ℕ} {work : List ℕ} {d x at : ℕ} {old : List ℕ} where
-  pub back_first : {left : ℕ} → left ≡ d → Chain N work d x → Back N work d x at old left x at old
-  back_first {left} e c =
-      subst (λ k. Back N work d x at old k x at old) (sym e)
-      (record { front = []; whole = refl; wrote = refl; place = omega arith; sum = omega arith; chain = c })
+module _ {N : ℕ} {work : List ℕ} {d x : ℕ} where
+  pub back_first : {cells : List ℕ} → Chain N work d x → Back N work d x 0 x cells
+  back_first c = record { left = d; sum = omega arith; front = []; whole = refl; wrote = refl; chain = c }
 
-  module _ {left p to : ℕ} {out : List ℕ} (h : Back N work d x at old left p to out) where
-    pub back_length : length out ≡ length old
-    back_length = ap length h.wrote ∙ length-sets old at (map byte_of h.front)
-
-    pub back_place : to + left ≡ at + d
-    back_place = omega (arith, h.place, h.sum)
-
-    at_left : (j : ℕ) → left ≡ suc j → Back N work d x at old (suc j) p to out
-    at_left j e = subst (λ k. Back N work d x at old k p to out) e h
-
-    pub back_link : 0 < left → (p < N) × (get_or work (N + p) 0 < 52)
-    back_link l = let k = (at_left (left - 1) (omega arith)).chain in (k.0, k.1)
-
-    pub back_turn : {b : ℕ} → 0 < left → b ≡ byte_of (inv (get_or work (N + p) 0)) → Back N work d x at old (left - 1) (get_or work p 0) (to + 1) (set out to b)
-    back_turn {b} l e = go (left - 1) (at_left (left - 1) (omega arith))
+  module _ {i p : ℕ} {cells : List ℕ} (h : Back N work d x i p cells) where
+    back_more : i < d → (j : ℕ) × (h.left ≡ suc j) × Chain N work (suc j) p
+    back_more l = (h.left - 1, e, subst (λ k. Chain N work k p) e h.chain)
       where
-        go : (j : ℕ) → Back N work d x at old (suc j) p to out → Back N work d x at old j (get_or work p 0) (to + 1) (set out to b)
-        go j k = step
-          where
-            y : ℕ
-            y = get_or work (N + p) 0
+        e : h.left ≡ suc (h.left - 1)
+        e = omega (arith, h.sum)
 
-            q : List ℕ
-            q = noted_path N work j (get_or work p 0)
+    pub back_link : i < d → (p < N) × (get_or work (N + p) 0 < 52)
+    back_link l = let m = back_more l in (m.2.0, m.2.1)
 
-            split : inverse_of (noted_path N work (suc j) p) ≡ inv y ∷ inverse_of q
-            split = ap inverse_of (noted_more N work p j) ∙ inverse_last q y
-
-            step : Back N work d x at old j (get_or work p 0) (to + 1) (set out to b)
-            step =
-                record {
-                  front = k.front ++ (inv y ∷ []);
-                  whole = k.whole ∙ ap (λ l. k.front ++ l) split ∙ sym (append_assoc k.front (inv y ∷ []) (inverse_of q));
-                  wrote =
-                      ap (λ l. set l to b) k.wrote
-                      ∙ ap (λ i. set (sets old at (map byte_of k.front)) i b) (k.place ∙ ap (λ m. at + m) (sym (length-map k.front byte_of)))
-                      ∙ ap (λ z. set (sets old at (map byte_of k.front)) (at + length (map byte_of k.front)) z) e
-                      ∙ sets_append old at (map byte_of k.front) (byte_of (inv y) ∷ [])
-                      ∙ ap (sets old at) (sym (map-append byte_of k.front (inv y ∷ [])));
-                  place = omega (arith, k.place, length-append k.front (inv y ∷ []));
-                  sum = omega (arith, k.sum, length-append k.front (inv y ∷ []));
-                  chain = k.chain.2;
-                }
-
-    pub back_done : left ≤ 0 → (out ≡ sets old at (map byte_of (inverse_of (noted_path N work d x)))) × (to ≡ at + d)
-    back_done l = go (subst (λ k. Back N work d x at old k p to out) (let e : left ≡ 0 = omega arith in e) h)
+    pub back_turn : {b : ℕ} → i < d → i < length cells → b ≡ byte_of (inv (get_or work (N + p) 0))
+        → Back N work d x (i + 1) (get_or work p 0) (set cells i b)
+    back_turn {b} l k e =
+        record {
+          left = j;
+          sum = omega (arith, h.sum, m.1);
+          front = h.front ++ (inv y ∷ []);
+          whole =
+              h.whole
+              ∙ ap (λ k. h.front ++ inverse_of (noted_path N work k p)) m.1
+              ∙ ap (λ l. h.front ++ l) (ap inverse_of (noted_more N work p j) ∙ inverse_last q y)
+              ∙ sym (append_assoc h.front (inv y ∷ []) (inverse_of q));
+          wrote =
+              ap (λ k. take k (set cells i b)) (add-one i)
+              ∙ take-suc-set cells i b k
+              ∙ ap (λ l. l ++ (b ∷ [])) h.wrote
+              ∙ ap (λ z. map byte_of h.front ++ (z ∷ [])) e
+              ∙ sym (map-append byte_of h.front (inv y ∷ []));
+          chain = m.2.2;
+        }
       where
-        go : Back N work d x at old 0 p to out → (out ≡ sets old at (map byte_of (inverse_of (noted_path N work d x)))) × (to ≡ at + d)
-        go k = (
-          k.wrote ∙ ap (λ l. sets old at (map byte_of l)) (sym (k.whole ∙ ap (λ l. k.front ++ l) none_left ∙ append-nil k.front)),
-          omega (arith, k.place, k.sum),
-        )
-          where
-            none_left : inverse_of (noted_path N work 0 p) ≡ []
-            none_left = ap inverse_of (noted_none N work p) ∙ inverse_none
+        m : (j : ℕ) × (h.left ≡ suc j) × Chain N work (suc j) p
+        m = back_more l
+
+        j : ℕ
+        j = m.0
+
+        y : ℕ
+        y = get_or work (N + p) 0
+
+        q : List ℕ
+        q = noted_path N work j (get_or work p 0)
+
+    pub back_done : length cells ≡ d → length cells ≤ i → cells ≡ map byte_of (inverse_of (noted_path N work d x))
+    back_done e l =
+        sym (take-length cells)
+        ∙ ap (λ k. take k cells) (let q : length cells ≡ i = omega (arith, h.sum) in q)
+        ∙ h.wrote
+        ∙ ap (map byte_of) (sym (h.whole ∙ ap (λ k. h.front ++ inverse_of (noted_path N work k p)) none_left ∙ ap (λ l. h.front ++ l) (ap inverse_of (noted_none N work p) ∙ inverse_none) ∙ append-nil h.front))
+      where
+        none_left : h.left ≡ 0
+        none_left = omega (arith, h.sum)
+
+-- a part of d bytes, and that part written whole
+module _ (old : List ℕ) (at : ℕ) {d k : ℕ} (e : k ≡ d) (f : at + d ≤ length old) where
+  pub part_length : length (take (at + k - at) (drop at old)) ≡ d
+  part_length = omega (arith, length-take (at + k - at) (drop at old), length-drop at old)
+
+  pub part_written : (cells : List ℕ) → length cells ≡ d → put_mid at (at + k - at) old cells ≡ sets old at cells
+  part_written cells g =
+      ap (λ l. take at old ++ (cells ++ l)) (drop-drop (at + k - at) at old ∙ ap (λ j. drop j old) (let q : at + (at + k - at) ≡ at + length cells = omega arith in q))
+      ∙ sym (append_assoc (take at old) cells (drop (at + length cells) old))
+      ∙ sym (sets-eq cells old at (omega arith))
 
 -- ── A line ──
 

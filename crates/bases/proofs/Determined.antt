@@ -5,9 +5,11 @@ use mathlib.Core.Path.{◌≡◌, sym, ◌∙◌}
 use mathlib.Core.List.{List}
 use Prim.Native.Nat.{ℕ}
 use Rattle.bases.specs.Bases.{BasisOutcome}
-use Rattle.bases.specs.declared.BasisAnswer.{BasisAnswer}
+use Rattle.lists.specs.declared.TextSize.{TextSize}
+use Rattle.refusals.specs.declared.Refusal.{Refusal}
+use Rattle.std.specs.declared.result.Result.{Result}
 
-pub basis_determined : (n N : ℕ) (t work out : List ℕ) (r s : BasisAnswer) (work' cells out' text : List ℕ)
+pub basis_determined : (n N : ℕ) (t work out : List ℕ) (r s : Result TextSize Refusal) (work' cells out' text : List ℕ)
     → BasisOutcome n N t work out r work' out' → BasisOutcome n N t work out s cells text → (r ≡ s) × (work' ≡ cells) × (out' ≡ text)
 basis_determined n N t work out r s work' cells out' text h k =
     (h.answer ∙ sym k.answer, h.cells ∙ sym k.cells, h.text ∙ sym k.text)

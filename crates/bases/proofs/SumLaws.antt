@@ -24,13 +24,13 @@ use Rattle.theory.proofs.PathLaws.{spot}
 use Rattle.tables.proofs.CellTurn.{Sizes}
 use Rattle.bases.specs.Chains.{depth_of, loop_bytes}
 use Rattle.bases.specs.Words.{Pathed, is_outside, basis_in, text_of, size_in, grown, Small}
-use Rattle.bases.specs.declared.Size.{Size}
+use Rattle.lists.specs.declared.TextSize.{TextSize}
 use Rattle.bases.proofs.ChainLaws.{sets_append}
 use Rattle.bases.proofs.SpotLaws.{text_of-append, size_in-append, one_outside, one_used, text_none}
 use Rattle.bases.proofs.PathedLaws.{pathed_sizes, depth_small, far_in, line_text, line_length}
 
 -- sizes are added one after the other
-grown_twice : (a b d : Size) → grown (grown a b) d ≡ grown a (grown b d)
+grown_twice : (a b d : TextSize) → grown (grown a b) d ≡ grown a (grown b d)
 grown_twice a b d = λ i. record { words = words i; bytes = bytes i }
   where
     words : a.words + b.words + d.words ≡ a.words + (b.words + d.words)
@@ -40,7 +40,7 @@ grown_twice a b d = λ i. record { words = words i; bytes = bytes i }
     bytes = omega arith
 
 -- equal parts, equal sizes
-size_eq : {a b d e : ℕ} → a ≡ d → b ≡ e → ◌≡◌ {A = Size} (record { words = a; bytes = b }) (record { words = d; bytes = e })
+size_eq : {a b d e : ℕ} → a ≡ d → b ≡ e → ◌≡◌ {A = TextSize} (record { words = a; bytes = b }) (record { words = d; bytes = e })
 size_eq p q = λ i. record { words = p i; bytes = q i }
 
 module _ (c : Cells) (N : ℕ) (ys : List ℕ) where
@@ -52,11 +52,11 @@ module _ (c : Cells) (N : ℕ) (ys : List ℕ) where
   unfolding text_of list_text
   none_text ss e = ap list_text e
 
-  pub size_used : (size : Size) (s : Spot) → is_outside c N ys s ≡ false
-      → ◌≡◌ {A = Size} (record { words = size.words; bytes = size.bytes }) (grown size (size_in c N ys (s ∷ [])))
+  pub size_used : (size : TextSize) (s : Spot) → is_outside c N ys s ≡ false
+      → size ≡ grown size (size_in c N ys (s ∷ []))
   size_used size s e =
       let z = none_size (s ∷ []) (one_used c N ys s e) in
-      size_eq (omega (arith, ap (λ (a : Size). a.words) z)) (omega (arith, ap (λ (a : Size). a.bytes) z))
+      size_eq (omega (arith, ap (λ (a : TextSize). a.words) z)) (omega (arith, ap (λ (a : TextSize). a.bytes) z))
 
   pub text_used : (s : Spot) → is_outside c N ys s ≡ false → text_of c N ys (s ∷ []) ≡ []
   text_used s e = none_text (s ∷ []) (one_used c N ys s e)
@@ -73,11 +73,11 @@ module _ (c : Cells) (N : ℕ) (ys : List ℕ) where
   unfolding scan
   start_size = none_size [] (text_none c N ys)
 
-pub record Sum (n N : ℕ) (t : List ℕ) (v : ℕ) (first : Size) (y : ℕ) (sum : Size) : Type 0 where
+pub record Sum (n N : ℕ) (t : List ℕ) (v : ℕ) (first : TextSize) (y : ℕ) (sum : TextSize) : Type 0 where
   pub letter : y ≤ 2 * n
   pub is : sum ≡ grown first (size_in (cell n N t) N (usual n) (take y (spots_of (usual n) v)))
 
-pub record Sums (n N : ℕ) (t : List ℕ) (v : ℕ) (size : Size) : Type 0 where
+pub record Sums (n N : ℕ) (t : List ℕ) (v : ℕ) (size : TextSize) : Type 0 where
   pub point : v ≤ N
   pub is : size ≡ size_in (cell n N t) N (usual n) (scan v (usual n))
   pub small : Small size v
@@ -99,15 +99,15 @@ module _ {n N : ℕ} {t work : List ℕ} (P : Pathed n N t work) where
   abbrev text : List Spot → List ℕ
   text = text_of (cell n N t) N (usual n)
 
-  abbrev sized : List Spot → Size
+  abbrev sized : List Spot → TextSize
   sized = size_in (cell n N t) N (usual n)
 
   -- ── One spot ──
 
   module _ {v y : ℕ} (hv : v < N) (hy : y < 2 * n) where
-    pub size_line : (size : Size) {x line : ℕ} → x ≡ cell n N t v y → is_outside (cell n N t) N (usual n) (spot v y) ≡ true
+    pub size_line : (size : TextSize) {x line : ℕ} → x ≡ cell n N t v y → is_outside (cell n N t) N (usual n) (spot v y) ≡ true
         → line ≡ depth_of N work v + depth_of N work x + 2
-        → ◌≡◌ {A = Size} (record { words = size.words + 1; bytes = size.bytes + line }) (grown size (size_in (cell n N t) N (usual n) (spot v y ∷ [])))
+        → ◌≡◌ {A = TextSize} (record { words = size.words + 1; bytes = size.bytes + line }) (grown size (size_in (cell n N t) N (usual n) (spot v y ∷ [])))
     size_line size q e f =
         size_eq (omega (arith, one_word c N (usual n) (spot v y) e))
         (omega (arith, f, size_bytes c N (usual n) (spot v y ∷ []), line_length P v y hv hy q e))
@@ -138,7 +138,7 @@ module _ {n N : ℕ} {t work : List ℕ} (P : Pathed n N t work) where
           ),
         ))
         (λ e. let z = none_size c N (usual n) (spot v y ∷ []) (one_used c N (usual n) (spot v y) e) in
-        (omega (arith, ap (λ (a : Size). a.words) z), omega (arith, ap (λ (a : Size). a.bytes) z)))
+        (omega (arith, ap (λ (a : TextSize). a.words) z), omega (arith, ap (λ (a : TextSize). a.bytes) z)))
 
   -- ── One row ──
 
@@ -165,34 +165,34 @@ module _ {n N : ℕ} {t work : List ℕ} (P : Pathed n N t work) where
   row_small : (v y : ℕ) → v < N → y ≤ 2 * n → ((sized (row v y)).words ≤ y) × ((sized (row v y)).bytes ≤ 2097154 * y)
   row_small v zero hv h =
       let z = none_size c N (usual n) [] (text_none c N (usual n)) in
-      (omega (arith, ap (λ (a : Size). a.words) z), omega (arith, ap (λ (a : Size). a.bytes) z))
+      (omega (arith, ap (λ (a : TextSize). a.words) z), omega (arith, ap (λ (a : TextSize). a.bytes) z))
   row_small v (suc y) hv h =
       let r = row_small v y hv (omega arith) in
       let s = spot_small hv (let l : y < 2 * n = omega arith in l) in
       let z = row_size v y (omega arith) in
-      (omega (arith, r.0, s.0, ap (λ (a : Size). a.words) z), omega (arith, r.1, s.1, ap (λ (a : Size). a.bytes) z))
+      (omega (arith, r.0, s.0, ap (λ (a : TextSize). a.words) z), omega (arith, r.1, s.1, ap (λ (a : TextSize). a.bytes) z))
 
   -- ── Sizes ──
 
-  module _ {v : ℕ} {first : Size} (hv : v < N) (small : Small first v) where
+  module _ {v : ℕ} {first : TextSize} (hv : v < N) (small : Small first v) where
     pub sum_first : Sum n N t v first 0 first
     sum_first =
         let z = none_size c N (usual n) [] (text_none c N (usual n)) in
         record {
           letter = omega arith;
-          is = size_eq (omega (arith, ap (λ (a : Size). a.words) z)) (omega (arith, ap (λ (a : Size). a.bytes) z));
+          is = size_eq (omega (arith, ap (λ (a : TextSize). a.words) z)) (omega (arith, ap (λ (a : TextSize). a.bytes) z));
         }
 
-    module _ {y : ℕ} {sum : Size} (S : Sum n N t v first y sum) where
+    module _ {y : ℕ} {sum : TextSize} (S : Sum n N t v first y sum) where
       pub sum_small : (sum.words ≤ 200000000) × (sum.bytes ≤ 200000000000000)
       sum_small =
           let r = row_small v y hv S.letter in
           let s = pathed_sizes P in (
-            omega (arith, r.0, small.0, S.letter, s.letters, s.points, hv, ap (λ (a : Size). a.words) S.is),
-            omega (arith, r.1, small.1, S.letter, s.letters, s.points, hv, ap (λ (a : Size). a.bytes) S.is),
+            omega (arith, r.0, small.0, S.letter, s.letters, s.points, hv, ap (λ (a : TextSize). a.words) S.is),
+            omega (arith, r.1, small.1, S.letter, s.letters, s.points, hv, ap (λ (a : TextSize). a.bytes) S.is),
           )
 
-      pub sum_turn : {after : Size} → y < 2 * n → after ≡ grown sum (size_in (cell n N t) N (usual n) (spot v y ∷ [])) → Sum n N t v first (y + 1) after
+      pub sum_turn : {after : TextSize} → y < 2 * n → after ≡ grown sum (size_in (cell n N t) N (usual n) (spot v y ∷ [])) → Sum n N t v first (y + 1) after
       sum_turn {after} h e =
           rw (add-one y)
           (record {
@@ -206,7 +206,7 @@ module _ {n N : ℕ} {t work : List ℕ} (P : Pathed n N t work) where
   pub sums_first : Sums n N t 0 (record { words = 0; bytes = 0 })
   sums_first = record { point = omega arith; is = sym (start_size c N (usual n)); small = (omega arith, omega arith) }
 
-  pub sums_turn : {v : ℕ} {size after : Size} → Sums n N t v size → v < N
+  pub sums_turn : {v : ℕ} {size after : TextSize} → Sums n N t v size → v < N
       → after ≡ grown size (size_in (cell n N t) N (usual n) (spots_of (usual n) v)) → Sums n N t (v + 1) after
   unfolding scan
   sums_turn {v} {size} {after} S h e =
@@ -215,8 +215,8 @@ module _ {n N : ℕ} {t work : List ℕ} (P : Pathed n N t work) where
         point = omega arith;
         is = e ∙ ap (λ a. grown a (sized (spots_of (usual n) v))) S.is ∙ sym (size_in-append c N (usual n) (scan v (usual n)) (spots_of (usual n) v));
         small = (
-          omega (arith, r.0, S.small.0, s.letters, ap (λ (a : Size). a.words) e, ap (λ (a : Size). a.words) w),
-          omega (arith, r.1, S.small.1, s.letters, ap (λ (a : Size). a.bytes) e, ap (λ (a : Size). a.bytes) w),
+          omega (arith, r.0, S.small.0, s.letters, ap (λ (a : TextSize). a.words) e, ap (λ (a : TextSize). a.words) w),
+          omega (arith, r.1, S.small.1, s.letters, ap (λ (a : TextSize). a.bytes) e, ap (λ (a : TextSize). a.bytes) w),
         );
       })
     where
@@ -229,7 +229,7 @@ module _ {n N : ℕ} {t work : List ℕ} (P : Pathed n N t work) where
       w : sized (row v (2 * n)) ≡ sized (spots_of (usual n) v)
       w = ap sized (row_whole v (2 * n) (omega arith))
 
-  pub sums_done : {v : ℕ} {size : Size} → Sums n N t v size → N ≤ v → size ≡ size_in (cell n N t) N (usual n) (scan N (usual n))
+  pub sums_done : {v : ℕ} {size : TextSize} → Sums n N t v size → N ≤ v → size ≡ size_in (cell n N t) N (usual n) (scan N (usual n))
   sums_done {v} S h = S.is ∙ ap (λ u. sized (scan u (usual n))) (let e : v ≡ N = omega (arith, S.point) in e)
 
   -- ── Lines ──

@@ -1,12 +1,13 @@
 -- What writing a basis says and leaves (document 01: refusals 1, 6, 7, 8, 9, or the words written as a list), cited by `basis`.
 --   basis_text n N t    == the basis of the table as a list text
 --   BasisCause         == the causes of `basis`, by number; basis_refusal == the first of them, computed
---   basisAnswer        == the first refusal; else how many words and bytes are written
+--   basis_size         == how many words and bytes are written where nothing is refused
 --   work_after, outAfter == the work cells then: 4 × N of them 0, but untouched by refusals 1 to 8; and the output: the text, then as it was
 --   BasisOutcome      <-> the answer and both buffers are those
 -- `room` is the number of work cells, `space` that of output bytes. Assumes nothing.
 use Rattle.std.specs.Prelude.{◌≡◌, cond, not, List, ◌++◌, ℕ, ◌*◌, eqb, ltb, length, drop}
 use Rattle.std.proofs.Math.Option.{Option, none, some}
+use Rattle.std.specs.declared.result.Result.{Result}
 use Rattle.theory.specs.Letters.{usual}
 use Rattle.theory.specs.Refusals.{Refusal as FirstCause, Cause1, Cause6Lent, CauseShort, Only, Join, is_alphabet, or_else, refused_if}
 use Rattle.theory.specs.TableRefusals.{Cause8, is_lent, cell_refusal}
@@ -14,9 +15,9 @@ use Rattle.theory.specs.Tables.{cell}
 use Rattle.theory.specs.Basis.{basis_of}
 use Rattle.theory.specs.Texts.{list_text}
 use Rattle.cells.specs.Filled.{filled}
-use Rattle.refusals.specs.Given.{given}
-use Rattle.bases.specs.declared.BasisAnswer.{BasisAnswer}
-use Rattle.bases.specs.declared.BasisAnswer.TheVariants.{Refused, Written}
+use Rattle.refusals.specs.declared.Refusal.{Refusal}
+use Rattle.refusals.specs.Given.{unless}
+use Rattle.lists.specs.declared.TextSize.{TextSize}
 
 -- the basis words, in document 01's order
 abbrev pub basis_words : ℕ → ℕ → List ℕ → List (List ℕ)
@@ -43,9 +44,9 @@ unfoldable pub basis_refusal : ℕ → ℕ → List ℕ → ℕ → ℕ → Opti
 basis_refusal n N t room space =
     early_refusal n N t room (refused_if (ltb space (length (basis_text n N t))) 9 (length (basis_text n N t)))
 
-abbrev pub answer_for : ℕ → ℕ → List ℕ → Option FirstCause → BasisAnswer
-answer_for n N t none = Written (length (basis_words n N t)) (length (basis_text n N t))
-answer_for n N t (some r) = Refused (given r)
+-- how many words and bytes are written
+abbrev pub basis_size : ℕ → ℕ → List ℕ → TextSize
+basis_size n N t = record { words = length (basis_words n N t); bytes = length (basis_text n N t) }
 
 -- 9 leaves the needed cells 0, as success does
 abbrev pub work_for : ℕ → List ℕ → Option FirstCause → List ℕ
@@ -56,7 +57,7 @@ abbrev pub out_for : List ℕ → List ℕ → Option FirstCause → List ℕ
 out_for text out none = text ++ drop (length text) out
 out_for text out (some r) = out
 
-pub record BasisOutcome (n N : ℕ) (t work out : List ℕ) (r : BasisAnswer) (work' out' : List ℕ) : Type 0 where
-  pub answer : r ≡ answer_for n N t (basis_refusal n N t (length work) (length out))
+pub record BasisOutcome (n N : ℕ) (t work out : List ℕ) (r : Result TextSize Refusal) (work' out' : List ℕ) : Type 0 where
+  pub answer : r ≡ unless (basis_refusal n N t (length work) (length out)) (basis_size n N t)
   pub cells : work' ≡ work_for N work (basis_refusal n N t (length work) (length out))
   pub text : out' ≡ out_for (basis_text n N t) out (basis_refusal n N t (length work) (length out))

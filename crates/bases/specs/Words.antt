@@ -12,7 +12,7 @@ use Rattle.theory.specs.Tables.{Cells}
 use Rattle.theory.specs.Basis.{Spot, is_path_edge, those, is_edge, basis_word}
 use Rattle.theory.specs.Texts.{list_text}
 use Rattle.paths.specs.Paths.{Ready, PathCells}
-use Rattle.bases.specs.declared.Size.{Size}
+use Rattle.lists.specs.declared.TextSize.{TextSize}
 
 pub record Pathed (n N : ℕ) (t work : List ℕ) : Type 0 where
   pub ready : Ready n N t (length work)
@@ -32,12 +32,12 @@ basis_in c N ys ss = map (basis_word c N ys) (those (is_outside c N ys) ss)
 unfoldable pub text_of : Cells → ℕ → List ℕ → List Spot → List ℕ
 text_of c N ys ss = list_text (basis_in c N ys ss)
 
-unfoldable pub size_in : Cells → ℕ → List ℕ → List Spot → Size
+unfoldable pub size_in : Cells → ℕ → List ℕ → List Spot → TextSize
 size_in c N ys ss = record { words = length (basis_in c N ys ss); bytes = length (text_of c N ys ss) }
 
-abbrev pub grown : Size → Size → Size
+abbrev pub grown : TextSize → TextSize → TextSize
 grown a b = record { words = a.words + b.words; bytes = a.bytes + b.bytes }
 
 -- a row has at most 52 cells, and a line at most 2 × 1,048,577 bytes
-abbrev pub Small : Size → ℕ → Type 0
+abbrev pub Small : TextSize → ℕ → Type 0
 Small size k = (size.words ≤ 52 * k) × (size.bytes ≤ 109052008 * k)

@@ -8,43 +8,22 @@ ghost use Rattle.theory.specs.Words.{inv};
 ghost use Rattle.theory.specs.Letters.{usual, byte_of};
 ghost use Rattle.theory.specs.Tables.{cell};
 ghost use Rattle.theory.specs.Basis.{spots_of, scan};
-ghost use Rattle.refusals.specs.Given.{found_as};
+ghost use Rattle.refusals.specs.Given.{unless};
 ghost use Rattle.bases.specs.Chains.{is_noted_step, depth_of, Chain, Linked, path_bytes, back_bytes, loop_bytes};
 ghost use Rattle.bases.specs.Words.{Pathed, AtSpot, is_outside, text_of, grown, size_in, Small};
 ghost use Rattle.bases.specs.Bases.{early_refusal, BasisOutcome};
 
-use refusals::{Found, Refusal};
-use tables::{Subgroup, Walked};
-
-// What writing a basis says: a refusal, or how many words and bytes were written.
-#[derive(Clone, Copy)]
-pub enum BasisAnswer {
-    Refused(Refusal),
-    Written { words: u64, bytes: u64 },
-}
-
-// How many words some edges give, and the bytes of their text.
-#[derive(Clone, Copy)]
-struct Size {
-    words: u64,
-    bytes: u64,
-}
-
-// The absent mark.
-const ABSENT: u32 = 4294967295;
+use cells::ABSENT;
+use lists::TextSize;
+use refusals::{Cause, Refusal, refuse};
+use tables::Subgroup;
 
 // The path of x ends with letter y from v, as the cells say.
 fn is_step(points: usize, work: &[u32], v: u32, y: u32, x: usize) -> bool
     requires { (x < points) × (3 * points ≤ length work.now) }
     ensures step { result ≡ is_noted_step points work.now v y x }
 {
-    if x == 0 {
-        return false;
-    }
-    if work[x] != v {
-        return false;
-    }
-    work[points + x] == y
+    x != 0 && work[x] == v && work[points + x] == y
 }
 
 // The edge of letter y at v gives a basis word: y is lower-case, leads somewhere, and no path uses the edge, either way.
@@ -75,50 +54,50 @@ fn depth(points: usize, work: &[u32], x: usize) -> u32
 }
 
 // A size, and what the edge of letter y at v adds to it: a word, and the bytes of its line.
-fn add_word(s: Subgroup, table: &[u32], work: &[u32], v: usize, y: usize, size: Size) -> Size
+fn add_word(
+    s: Subgroup,
+    table: &[u32],
+    work: &[u32],
+    v: usize,
+    y: usize,
+    size: TextSize,
+) -> TextSize
     requires { AtSpot s.n s.points table.now work.now v y × (size.words ≤ 200000000) × (size.bytes ≤ 200000000000000) }
     ensures size { result ≡ grown size (size_in (cell s.n s.points table.now) s.points (usual s.n) (record { point = v; letter = y } ∷ [])) }
 {
-    let words = size.words;
-    let bytes = size.bytes;
     if !is_outside(s, table, work, v, y) {
-        return Size { words, bytes };
+        return size;
     }
     let points = s.points as usize;
     let x = tables::cell_at(s, table, v, y) as usize;
     let line = depth(points, work, v) as u64 + depth(points, work, x) as u64 + 2;
-    Size {
-        words: words + 1,
-        bytes: bytes + line,
+    TextSize {
+        words: size.words + 1,
+        bytes: size.bytes + line,
     }
 }
 
 // A size, and what row v adds to it.
-fn add_row(s: Subgroup, table: &[u32], work: &[u32], v: usize, size: Size) -> Size
+fn add_row(s: Subgroup, table: &[u32], work: &[u32], v: usize, size: TextSize) -> TextSize
     requires { Pathed s.n s.points table.now work.now × (v < s.points) × Small size v }
     ensures size { result ≡ grown size (size_in (cell s.n s.points table.now) s.points (usual s.n) (spots_of (usual s.n) v)) }
 {
     let w = 2 * (s.n as usize);
     let mut sum = size;
-    let mut y: usize = 0;
-    while y < w {
+    for y in 0..w {
         sum = add_word(s, table, work, v, y, sum);
-        y += 1;
     }
     sum
 }
 
 // The size of the basis: its words, and the bytes of its text.
-fn measure(s: Subgroup, table: &[u32], work: &[u32]) -> Size
+fn measure(s: Subgroup, table: &[u32], work: &[u32]) -> TextSize
     requires { Pathed s.n s.points table.now work.now }
     ensures size { result ≡ size_in (cell s.n s.points table.now) s.points (usual s.n) (scan s.points (usual s.n)) }
 {
-    let points = s.points as usize;
-    let mut size = Size { words: 0, bytes: 0 };
-    let mut v: usize = 0;
-    while v < points {
+    let mut size = TextSize { words: 0, bytes: 0 };
+    for v in 0..s.points as usize {
         size = add_row(s, table, work, v, size);
-        v += 1;
     }
     size
 }
@@ -147,10 +126,9 @@ fn write_path(points: usize, work: &[u32], v: u32, out: &mut [u8], at: usize)
     ensures path { out.new ≡ sets out.old at (path_bytes points work.now v) }
 {
     let mut p = v;
-    let mut left = depth(points, work, v as usize) as usize;
-    while 0 < left {
-        left -= 1;
-        out[at + left] = byte_to(points, work, p);
+    let end = at + depth(points, work, v as usize) as usize;
+    for i in (at..end).rev() {
+        out[i] = byte_to(points, work, p);
         p = work[p as usize];
     }
 }
@@ -162,15 +140,12 @@ fn write_back(points: usize, work: &[u32], x: u32, out: &mut [u8], at: usize) ->
     ensures end { result ≡ at + depth_of points work.now x }
 {
     let mut p = x;
-    let mut to = at;
-    let mut left = depth(points, work, x as usize) as usize;
-    while 0 < left {
-        out[to] = byte_back(points, work, p);
+    let end = at + depth(points, work, x as usize) as usize;
+    for cell in &mut out[at..end] {
+        *cell = byte_back(points, work, p);
         p = work[p as usize];
-        to += 1;
-        left -= 1;
     }
-    to
+    end
 }
 
 // Writes the line of the basis word of letter y from v to x from byte `at` on. Answers the place behind it.
@@ -224,10 +199,8 @@ fn write_row(s: Subgroup, table: &[u32], work: &[u32], v: usize, out: &mut [u8],
 {
     let w = 2 * (s.n as usize);
     let mut to = at;
-    let mut y: usize = 0;
-    while y < w {
+    for y in 0..w {
         to = write_word(s, table, work, v, y, out, to);
-        y += 1;
     }
     to
 }
@@ -237,64 +210,55 @@ fn write_words(s: Subgroup, table: &[u32], work: &[u32], out: &mut [u8])
     requires { Pathed s.n s.points table.now work.now × (length (text_of (cell s.n s.points table.now) s.points (usual s.n) (scan s.points (usual s.n))) ≤ length out.old) }
     ensures text { out.new ≡ sets out.old 0 (text_of (cell s.n s.points table.now) s.points (usual s.n) (scan s.points (usual s.n))) }
 {
-    let points = s.points as usize;
     let mut at: usize = 0;
-    let mut v: usize = 0;
-    while v < points {
+    for v in 0..s.points as usize {
         at = write_row(s, table, work, v, out, at);
-        v += 1;
     }
 }
 
-// Whether 1, 6, 7 or 8 applies, the first of them.
-pub fn early_cause(s: Subgroup, table: &[u32], room: usize) -> Found
-    ensures found { result ≡ found_as (early_refusal s.n s.points table.now room none) }
+// Refuses a table handed in with so many work cells by the first of 1, 6, 7 and 8 that applies.
+pub fn check_early(s: Subgroup, table: &[u32], room: usize) -> Result<(), Refusal>
+    ensures checked { result ≡ unless (early_refusal s.n s.points table.now room none) tt }
 {
-    let n = s.n;
-    if n < 1 {
-        return Found::Cause(refusals::refuse(1, 0));
-    }
-    if 26 < n {
-        return Found::Cause(refusals::refuse(1, 0));
-    }
-    if !tables::is_lent(s, table.len()) {
-        return Found::Cause(refusals::refuse(6, 0));
-    }
+    refusals::check_alphabet(s.n)?;
+    tables::check_lent(s, table.len())?;
     let needed = 4 * s.points;
-    if (room as u64) < needed {
-        return Found::Cause(refusals::refuse(7, needed));
-    }
-    match tables::walk(s, table) {
-        Walked::Faulty(p) => Found::Cause(refusals::refuse(8, p)),
-        Walked::Sound(_, _) => Found::Nothing,
-    }
+    refusals::check_room(Cause::Work, needed, room as u64)?;
+    tables::walk(s, table)?;
+    Ok(())
 }
 
 // Writes the basis where 1, 6, 7 and 8 do not apply: notes the paths, sums the size, and refuses by 9 or writes.
-fn write_basis(s: Subgroup, table: &[u32], work: &mut [u32], out: &mut [u8]) -> BasisAnswer
+fn write_basis(
+    s: Subgroup,
+    table: &[u32],
+    work: &mut [u32],
+    out: &mut [u8],
+) -> Result<TextSize, Refusal>
     requires { early_refusal s.n s.points table.now (length work.old) none ≡ none }
     ensures outcome { BasisOutcome s.n s.points table.now work.old out.old result work.new out.new }
 {
     let cells = 4 * (s.points as usize);
     paths::note_paths(s, table, work);
     let size = measure(s, table, work);
-    let words = size.words;
-    let bytes = size.bytes;
-    if (out.len() as u64) < bytes {
+    if (out.len() as u64) < size.bytes {
         cells::fill(work, cells, 0);
-        return BasisAnswer::Refused(refusals::refuse(9, bytes));
+        return Err(refuse(Cause::Output, size.bytes));
     }
     write_words(s, table, work, out);
     cells::fill(work, cells, 0);
-    BasisAnswer::Written { words, bytes }
+    Ok(size)
 }
 
 // Writes the basis of the subgroup of a table handed in as a list text, or refuses: 1, 6, 7, 8, 9.
-pub fn basis(s: Subgroup, table: &[u32], work: &mut [u32], out: &mut [u8]) -> BasisAnswer
+pub fn basis(
+    s: Subgroup,
+    table: &[u32],
+    work: &mut [u32],
+    out: &mut [u8],
+) -> Result<TextSize, Refusal>
     ensures outcome { BasisOutcome s.n s.points table.now work.old out.old result work.new out.new }
 {
-    match early_cause(s, table, work.len()) {
-        Found::Cause(r) => BasisAnswer::Refused(r),
-        Found::Nothing => write_basis(s, table, work, out),
-    }
+    check_early(s, table, work.len())?;
+    write_basis(s, table, work, out)
 }

@@ -1,8 +1,8 @@
 -- Marks in the work cells, the rows they stand for, and the number of an edge (`specs/Edges`, `specs/Steps`).
---   run_small, row_small, row_here, row_end : the rows of marks, in numbers
+--   run_small, row_small, row_cut : the rows of marks, in numbers
 --   row_first, row_grows, mark_near : the first run starts at row 0, rows of marks grow, and the last mark up to a row is found by dividing
 --   found_first, found_later, found_mark : the tally that a mark's cells hold
---   Marking <-> the first j marks are left, and the tally stands at the row of mark j; marking_first, marking_turn, marking_done
+--   Marking <-> the first j marks are left, and the tally stands at the row of mark j; marking_first, marking_rows, marking_turn : so it is at first, and after a mark
 --   number_is : the number of an edge outside the paths is one more than how many stand before it
 -- Assumes nothing.
 use mathlib.Core.Path.{◌≡◌, refl, sym, ◌∙◌, ap}
@@ -14,7 +14,7 @@ use native.Mathlib.Nat.{suc-mul, mul-le-mul_right, mul-le-mul, div-le_self, div-
 use native.Mathlib.Decide.{ℕ_discrete, dec_lt}
 use native.Mathlib.Numerals.{add-one}
 use native.Mathlib.Omega.{arith}
-use lib.ListN.{length, get_or, set, take, drop, length-append, length-drop, get_or-append}
+use lib.ListN.{length, get_or, set, take, drop, length-append, get_or-append}
 use lib.Seq.{drop-cons, set_at, get_or_at, get_or-take, get_or-append-add, split_at}
 use Rattle.theory.specs.Letters.{usual}
 use Rattle.theory.specs.Tables.{Cells, cell}
@@ -56,11 +56,8 @@ module _ (N k : ℕ) where
     row_small h l =
         let b : run ≤ 1048578 = omega (arith, q, run_is, run_small) in omega (arith, mul-le-mul l b)
 
-    pub row_here : j * run < N → j * run ≡ mark_row N k j
-    row_here h = let e = ap (λ r. j * r) q in omega (arith, e, row_is j)
-
-    pub row_end : N ≤ j * run → N ≡ mark_row N k j
-    row_end h = let e = ap (λ r. j * r) q in omega (arith, e, row_is j)
+    pub row_cut : min N (j * run) ≡ mark_row N k j
+    row_cut = let e = ap (λ r. j * r) q in omega (arith, e, row_is j)
 
   pub row_first : 0 ≡ mark_row N k 0
   row_first = sym (row_is 0 ∙ omega arith)
@@ -237,49 +234,29 @@ module _ {n N : ℕ} {t : List ℕ} (S : Sound n N t) where
 -- ── Marking ──
 
 pub record Marking (n N : ℕ) (t : List ℕ) (k : ℕ) (old : List ℕ) (j : ℕ) (work : List ℕ) (row : ℕ) (tally : Tally) : Type 0 where
-  pub count : j ≤ k
-  pub room : 2 * k ≤ length old
   pub cells : work ≡ marks_of (cell n N t) N (usual n) k j ++ drop (2 * j) old
   pub row_is : row ≡ mark_row N k j
   pub tally_is : tally ≡ tally_before (cell n N t) N (usual n) row
 
 module _ {n N : ℕ} {t : List ℕ} (S : Sound n N t) {k : ℕ} {old : List ℕ} where
-  pub marking_first : 2 * k ≤ length old → Marking n N t k old 0 old 0 (record { met = 0; edges = 0 })
+  pub marking_first : Marking n N t k old 0 old 0 (record { met = 0; edges = 0 })
   unfolding marks_of
-  marking_first h =
-      record {
-        count = omega arith;
-        room = h;
-        cells = refl;
-        row_is = row_first N k;
-        tally_is = tally_start S;
-      }
+  marking_first = record { cells = refl; row_is = row_first N k; tally_is = tally_start S }
 
-  module _ {j : ℕ} {work : List ℕ} {row : ℕ} {tally : Tally} (M : Marking n N t k old j work row tally) where
-    pub marking_length : length work ≡ length old
-    marking_length =
-        ap length M.cells ∙ length-append (marks_of (cell n N t) N (usual n) k j) (drop (2 * j) old)
-        ∙ omega (arith, length_marks (cell n N t) N (usual n) k j, length-drop (2 * j) old, M.count, M.room)
+  module _ {j : ℕ} {work : List ℕ} {row : ℕ} {tally : Tally} (M : Marking n N t k old j work row tally) {to : ℕ} (r : to ≡ mark_row N k (j + 1)) where
+    pub marking_rows : (row ≤ to) × (to ≤ N)
+    marking_rows = let g = row_grows N k j in (omega (arith, r, M.row_is, g.0), omega (arith, r, g.1))
 
-    module _ {to : ℕ} (r : to ≡ mark_row N k (j + 1)) where
-      pub marking_rows : (row ≤ to) × (to ≤ N)
-      marking_rows = let g = row_grows N k j in (omega (arith, r, M.row_is, g.0), omega (arith, r, g.1))
-
-      pub marking_turn : {after : List ℕ} {sum : Tally} → j < k → sum ≡ tally_before (cell n N t) N (usual n) to → after ≡ left work j sum
-          → Marking n N t k old (j + 1) after to sum
-      marking_turn {after} {sum} h e q =
-          record {
-            count = omega arith;
-            room = M.room;
-            cells = q ∙ ap (λ l. left l j sum) M.cells ∙ ap (left (marks_of (cell n N t) N (usual n) k j ++ drop (2 * j) old) j) there
-                ∙ left_more (cell n N t) N (usual n) k old j (omega (arith, M.room))
-                ∙ ap (λ i. marks_of (cell n N t) N (usual n) k i ++ drop (2 * i) old) (sym (add-one j));
-            row_is = r;
-            tally_is = e;
-          }
-        where
-          there : sum ≡ tally_before (cell n N t) N (usual n) (mark_row N k (suc j))
-          there = e ∙ ap (tally_before (cell n N t) N (usual n)) (r ∙ ap (mark_row N k) (add-one j))
-
-    pub marking_done : k ≤ j → work ≡ marks_of (cell n N t) N (usual n) k k ++ drop (2 * k) old
-    marking_done h = M.cells ∙ ap (λ i. marks_of (cell n N t) N (usual n) k i ++ drop (2 * i) old) (let e : j ≡ k = omega (arith, M.count) in e)
+    pub marking_turn : {after : List ℕ} {sum : Tally} → j < k → 2 * k ≤ length old → sum ≡ tally_before (cell n N t) N (usual n) to → after ≡ left work j sum
+        → Marking n N t k old (j + 1) after to sum
+    marking_turn {after} {sum} h room e q =
+        record {
+          cells = q ∙ ap (λ l. left l j sum) M.cells ∙ ap (left (marks_of (cell n N t) N (usual n) k j ++ drop (2 * j) old) j) there
+              ∙ left_more (cell n N t) N (usual n) k old j (omega arith)
+              ∙ ap (λ i. marks_of (cell n N t) N (usual n) k i ++ drop (2 * i) old) (sym (add-one j));
+          row_is = r;
+          tally_is = e;
+        }
+      where
+        there : sum ≡ tally_before (cell n N t) N (usual n) (mark_row N k (suc j))
+        there = e ∙ ap (tally_before (cell n N t) N (usual n)) (r ∙ ap (mark_row N k) (add-one j))

@@ -1,8 +1,8 @@
 -- Where points are first met, read off their own rows (`specs/Steps`), and the edges that no path uses.
---   sound_sizes, sound_setting, sound_inside : what a sound table gives
+--   sound_sizes, sound_setting : what a sound table gives
 --   back_absent, back_there : the place of the cell that leads back
 --   Least c N w x z least <-> `least` is the least place back from x by the letters below z, or lies behind all places
---   least_first, least_lower, least_keep, least_done : so it is at first, after a letter; and at the end it is where x is first met
+--   least_turn, least_done : so it is after a letter more; and at the end it is where x is first met
 --   first_least : no cell before the place where x is first met holds x
 --   forth_test, back_test : a path's last step is told by places, in either direction
 --   outside_loop, outside_back, outside_forth : the test for an edge that no path uses, asked of its greater end
@@ -12,8 +12,8 @@ use mathlib.Core.Logic.{◌⊎◌, inl, inr, ⊎_elim, by_cases}
 use mathlib.Core.Bool.{Bool, true, false, cond, not, ◌&&◌, ◌||◌}
 use mathlib.Core.Option.{Option, none, some, some-injective, none-ne-some}
 use mathlib.Core.List.{List}
-use Prim.Native.Nat.{ℕ, ◌+◌, ◌*◌, ◌≤◌, ◌<◌}
-use native.Mathlib.Decide.{ℕ_discrete}
+use Prim.Native.Nat.{ℕ, ◌+◌, ◌*◌, ◌≤◌, ◌<◌, min}
+use native.Mathlib.Decide.{ℕ_discrete, dec_lt}
 use native.Mathlib.Numerals.{add-one}
 use native.Mathlib.Omega.{arith}
 use lib.Dec.{eqb}
@@ -30,7 +30,6 @@ use Rattle.theory.proofs.TableLaws.{length_usual, get_or_usual, row_below}
 use Rattle.theory.proofs.PlaceLaws.{passes_fails, fails, ComesBefore, IsFirst, position_of_before, before_cases, first_place_some, first_place_is, first_place_is_none}
 use Rattle.theory.proofs.PathLaws.{Setting, usual_setting, spot, Step, leads_in, met, step_leads}
 use Rattle.theory.proofs.EdgeLaws.{is_path_step_sound}
-use Rattle.tables.specs.Cells.{Inside}
 use Rattle.tables.proofs.CellTurn.{or_false, Sizes, sizes, product_small}
 use Rattle.edges.specs.Edges.{Sound, is_outside}
 use Rattle.edges.specs.Steps.{place_back, place_of, step_place}
@@ -45,32 +44,19 @@ module _ (c : Cells) (N w x z : ℕ) where
   back_there e = rw (ne_eqb (c x z) absent e)
 
 pub record Least (c : Cells) (N w x z least : ℕ) : Type 0 where
-  pub letter : z ≤ w
   pub lower : (k : ℕ) → k < z → least ≤ place_back c N w x k
   pub held : (least ≡ N * w) ⊎ ((k : ℕ) × (k < z) × (least ≡ place_back c N w x k))
 
 module _ (c : Cells) (N w x : ℕ) where
-  pub least_first : {least : ℕ} → least ≡ N * w → Least c N w x 0 least
-  least_first e = record { letter = omega arith; lower = λ k h. absurd (omega arith); held = inl e }
-
-  module _ {z least at : ℕ} (L : Least c N w x z least) (h : z < w) (e : at ≡ place_back c N w x z) where
-    pub least_lower : at < least → Least c N w x (z + 1) at
-    least_lower b =
-        rw (add-one z)
-        (record {
-          letter = omega arith;
-          lower = λ k l. by_cases (ℕ_discrete k z) (λ q. omega (arith, e, ap (place_back c N w x) q)) (λ q. omega (arith, L.lower k (omega arith)));
-          held = inr (z, omega arith, e);
-        })
-
-    pub least_keep : least ≤ at → Least c N w x (z + 1) least
-    least_keep b =
-        rw (add-one z)
-        (record {
-          letter = omega arith;
-          lower = λ k l. by_cases (ℕ_discrete k z) (λ q. omega (arith, e, ap (place_back c N w x) q)) (λ q. L.lower k (omega arith));
-          held = ⊎_elim inl (λ s. inr (s.0, omega (arith, s.1), s.2)) L.held;
-        })
+  -- the lesser of the two, once a letter more is passed
+  pub least_turn : {z least at : ℕ} → Least c N w x z least → at ≡ place_back c N w x z → Least c N w x (z + 1) (min least at)
+  least_turn {z} {least} {at} L e =
+      rw (add-one z)
+      (record {
+        lower = λ k l. by_cases (ℕ_discrete k z) (λ q. omega (arith, e, ap (place_back c N w x) q)) (λ q. omega (arith, L.lower k (omega arith)));
+        held = by_cases (dec_lt at least)
+            (λ b. inr (z, omega arith, omega (arith, e))) (λ b. ⊎_elim (λ q. inl (omega (arith, q))) (λ s. inr (s.0, omega (arith, s.1), omega (arith, s.2))) L.held);
+      })
 
 module _ {n N : ℕ} {t : List ℕ} (S : Sound n N t) where
   abbrev c : Cells
@@ -84,9 +70,6 @@ module _ {n N : ℕ} {t : List ℕ} (S : Sound n N t) where
 
   pub sound_setting : Setting (cell n N t) N (usual n)
   sound_setting = usual_setting n N t S.canonical (omega (arith, sound_sizes.based))
-
-  pub sound_inside : {v y : ℕ} → v < N → y < 2 * n → Inside n N t v y
-  sound_inside h k = record { alphabet = S.alphabet; lent = S.lent; point = h; letter = k }
 
   -- a letter that leads somewhere is one of the table's, between points
   pub leads_small : (v y x : ℕ) → Leads (cell n N t) v y x → (v < N) × (x < N) × (y < 2 * n)
@@ -258,9 +241,6 @@ module _ {n N : ℕ} {t : List ℕ} (S : Sound n N t) where
 
     no_back : v ≤ x → is_path_step c N (usual n) x (inv y) ≡ false
     no_back h = no_step x (inv y) v (S.canonical.inverse v y x lead) h
-
-    pub target_small : x < N
-    target_small = (leads_small v y x lead).1
 
     pub outside_loop : x ≡ v → true ≡ is_outside (cell n N t) N (usual n) v y
     outside_loop e = sym (outside_is ∙ rw (no_step v y x lead (omega arith), no_back (omega arith)))

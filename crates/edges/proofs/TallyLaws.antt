@@ -202,7 +202,7 @@ module _ {n N : ℕ} {t : List ℕ} (S : Sound n N t) where
           → ◌≡◌ {A = Tally} (record { met = m; edges = tally.edges }) (tally_at c N (usual n) v (y + 1))
       kept e p = tally_eq p (edges_then ∙ edges_kept e) ∙ next_is
 
-      pub pass_absent : x ≡ absent → ◌≡◌ {A = Tally} (record { met = tally.met; edges = tally.edges }) (tally_at (cell n N t) N (usual n) v (y + 1))
+      pub pass_absent : x ≡ absent → tally ≡ tally_at (cell n N t) N (usual n) v (y + 1)
       pass_absent e =
           let a : c v y ≡ absent = sym q ∙ e in
           kept (no_edge c N (usual n) (spot v y) (rw (eq-eqb (c v y) absent a) (and_none (is_lower y)))) (ap (λ (a : Tally). a.met) T ∙ met_absent a)
@@ -221,14 +221,14 @@ module _ {n N : ℕ} {t : List ℕ} (S : Sound n N t) where
           met_kept =
               let e : tally.met ≡ max (tally_at c N (usual n) v y).met (c v y) = omega (arith, met_is, met_then, q, g) in e ∙ met_there there
 
-          pub pass_capital : (y % 2 ≡ 0 → ⊥) → ◌≡◌ {A = Tally} (record { met = tally.met; edges = tally.edges }) (tally_at (cell n N t) N (usual n) v (y + 1))
+          pub pass_capital : (y % 2 ≡ 0 → ⊥) → tally ≡ tally_at (cell n N t) N (usual n) v (y + 1)
           pass_capital l = kept (no_edge c N (usual n) (spot v y) (rw (ne_eqb (y % 2) 0 l))) met_kept
 
           module _ {b first : ℕ} (d : b ≡ place_back (cell n N t) N (2 * n) v y) (f : first ≡ step_place n N t v) where
             test : is_outside c N (usual n) v y ≡ not (eqb b first)
             test = old_test there (omega (arith, met_then, q, g)) ∙ ap (λ k. not (eqb k (step_place n N t v))) (sym d) ∙ ap (λ k. not (eqb b k)) (sym f)
 
-            pub pass_path : b ≡ first → ◌≡◌ {A = Tally} (record { met = tally.met; edges = tally.edges }) (tally_at (cell n N t) N (usual n) v (y + 1))
+            pub pass_path : b ≡ first → tally ≡ tally_at (cell n N t) N (usual n) v (y + 1)
             pass_path e = kept (on_path_lem c N (usual n) (spot v y) (test ∙ rw (eq-eqb b first e))) met_kept
 
             pub pass_outside : y % 2 ≡ 0 → (b ≡ first → ⊥) → ◌≡◌ {A = Tally} (record { met = tally.met; edges = tally.edges + 1 }) (tally_at (cell n N t) N (usual n) v (y + 1))

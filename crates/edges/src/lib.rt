@@ -8,13 +8,11 @@ ghost use Rattle.theory.specs.Basis.{is_edge, outside_edges, number_in};
 ghost use Rattle.edges.specs.Edges.{Sound, is_outside, tally_before, mark_row, marks_of};
 ghost use Rattle.edges.specs.Steps.{place_back, step_place, tally_at, run_of, left, found};
 
+use cells::ABSENT;
 use tables::Subgroup;
 
-// The absent mark.
-const ABSENT: u32 = 4294967295;
-
 // The greatest point met, and how many edges outside the paths there are, up to some place of a table.
-#[derive(Clone, Copy)]
+#[derive(Clone, Copy, Debug, PartialEq, Eq)]
 struct Tally {
     met: u32,
     edges: u32,
@@ -43,13 +41,8 @@ fn step_place(s: Subgroup, table: &[u32], x: usize) -> usize
     if x == 0 {
         return least;
     }
-    let mut z: usize = 0;
-    while z < w {
-        let at = place_back(s, table, x, z);
-        z += 1;
-        if at < least {
-            least = at;
-        }
+    for z in 0..w {
+        least = least.min(place_back(s, table, x, z));
     }
     least
 }
@@ -77,24 +70,22 @@ fn pass_cell(s: Subgroup, table: &[u32], v: usize, y: usize, first: usize, tally
     requires tally { tally ≡ tally_at (cell s.n s.points table.now) s.points (usual s.n) v y }
     ensures tally { result ≡ tally_at (cell s.n s.points table.now) s.points (usual s.n) v (y + 1) }
 {
-    let met = tally.met;
-    let edges = tally.edges;
     let x = tables::cell_at(s, table, v, y);
     if x == ABSENT {
-        return Tally { met, edges };
+        return tally;
     }
-    if met < x {
-        return Tally { met: x, edges };
+    if tally.met < x {
+        return Tally { met: x, ..tally };
     }
     if y % 2 != 0 {
-        return Tally { met, edges };
+        return tally;
     }
     if place_back(s, table, v, y) == first {
-        return Tally { met, edges };
+        return tally;
     }
     Tally {
-        met,
-        edges: edges + 1,
+        edges: tally.edges + 1,
+        ..tally
     }
 }
 
@@ -106,10 +97,8 @@ fn pass_cells(s: Subgroup, table: &[u32], v: usize, upto: usize, tally: Tally) -
 {
     let first = step_place(s, table, v);
     let mut sum = tally;
-    let mut y: usize = 0;
-    while y < upto {
+    for y in 0..upto {
         sum = pass_cell(s, table, v, y, first, sum);
-        y += 1;
     }
     sum
 }
@@ -122,10 +111,8 @@ fn pass_rows(s: Subgroup, table: &[u32], from: usize, to: usize, tally: Tally) -
 {
     let w = 2 * (s.n as usize);
     let mut sum = tally;
-    let mut v = from;
-    while v < to {
+    for v in from..to {
         sum = pass_cells(s, table, v, w, sum);
-        v += 1;
     }
     sum
 }
@@ -143,9 +130,7 @@ fn mark_row(s: Subgroup, marks: usize, j: usize) -> usize
     requires { (s.points ≤ 1048577) × (marks ≤ 1048576) × (j ≤ marks) }
     ensures row { result ≡ mark_row s.points marks j }
 {
-    let points = s.points as usize;
-    let row = j * run_of(s, marks);
-    if row < points { row } else { points }
+    (s.points as usize).min(j * run_of(s, marks))
 }
 
 // Leaves a tally in the cells of mark j + 1.
@@ -178,13 +163,11 @@ pub fn mark(s: Subgroup, table: &[u32], work: &mut [u32], marks: usize)
 {
     let mut tally = Tally { met: 0, edges: 0 };
     let mut row: usize = 0;
-    let mut j: usize = 0;
-    while j < marks {
+    for j in 0..marks {
         let to = mark_row(s, marks, j + 1);
         tally = pass_rows(s, table, row, to, tally);
         leave(work, j, tally);
         row = to;
-        j += 1;
     }
 }
 

@@ -1,78 +1,77 @@
 -- The stages of `express` on plain values: what is said of the query's word, and what is left in the buffers.
---   home_stopped, home_ended : a reading ends at the base exactly if the word leads there
+--   home_said                : a reading ends at the base exactly if the word leads there
+--   room_held, room_short    : what the test of a room tells
 --   marked_after, marks_kept : the marks stand in the first cells, the others are as they were
 --   numbers_written          : places with their numbers are the numbers noted along the word
---   word_outside, word_narrow, word_written : the three outcomes of a word
+--   word_narrow, word_written : the two outcomes of a member's word
 --   query_refused, expressed : those of a query
 -- Assumes nothing.
 use mathlib.Core.Path.{◌≡◌, refl, sym, ◌∙◌, ap, subst}
 use mathlib.Core.Logic.{⊎_elim, by_cases}
 use mathlib.Core.Bool.{Bool, true, false, cond, ◌&&◌}
-use mathlib.Core.Option.{Option, none, some}
+use mathlib.Core.Option.{Option as Known, none, some}
 use mathlib.Core.List.{List, [], ◌∷◌, ◌++◌, map}
 use Prim.Native.Nat.{ℕ, zero, suc, ◌+◌, ◌-◌, ◌*◌, ◌/◌, ◌≤◌, ◌<◌}
-use native.Mathlib.Decide.{ℕ_discrete, dec_lt}
+use native.Mathlib.Decide.{dec_lt}
 use native.Mathlib.Omega.{arith}
 use lib.Dec.{eqb, ltb}
 use lib.IntN.{ℤ}
 use lib.ListN.{length, take, drop, replicate, length-append}
 use lib.Seq.{take_at, drop_at, drop-drop}
-use borrow.Author.Tests.{eq-eqb, ne_eqb, lt-ltb, le-ltb, eqb-true}
+use borrow.Author.Tests.{ne_eqb, lt-ltb, le-ltb, ltb-true, ltb-false, eqb-true}
+use Rattle.std.specs.Prelude.{⊤}
+use Rattle.std.specs.declared.option.Option.{Option}
+use Rattle.std.specs.declared.option.Option.TheVariants.{Some}
+use Rattle.std.specs.declared.result.Result.{Result}
+use Rattle.std.specs.declared.result.Result.TheVariants.{Ok, Err}
 use Rattle.theory.specs.Words.{reduced}
 use Rattle.theory.specs.Letters.{usual}
 use Rattle.theory.specs.Refusals.{Refusal as FirstCause, TextCause, or_else, refused_if}
 use Rattle.theory.specs.TableRefusals.{MemberCause, member_refusal}
-use Rattle.theory.specs.Tables.{absent, Cells, cell, end_of, is_at, reading_from, is_accepted}
+use Rattle.theory.specs.Tables.{Cells, cell, end_of, is_at, is_accepted}
 use Rattle.theory.specs.Basis.{expression_of}
 use Rattle.theory.proofs.WordLaws.{by_test}
 use Rattle.theory.proofs.PlaceLaws.{passes_fails}
 use Rattle.theory.proofs.RefusalLaws.{refusal_none}
 use Rattle.theory.proofs.TableRefusalLaws.{in_lent, member_refusal_first}
 use Rattle.cells.specs.Filled.{filled}
-use Rattle.refusals.specs.Given.{given_as, found_as}
+use Rattle.refusals.specs.Given.{refusal_at, unless, unless_short}
+use Rattle.refusals.specs.declared.Cause.{Cause}
+use Rattle.refusals.specs.declared.Cause.TheVariants.{Output}
 use Rattle.refusals.specs.declared.Refusal.{Refusal}
-use Rattle.refusals.specs.declared.Found.{Found}
-use Rattle.refusals.specs.declared.Found.TheVariants.{Cause}
-use Rattle.refusals.proofs.FoundLaws.{found_cause}
+use Rattle.refusals.proofs.UnlessLaws.{unless_err}
 use Rattle.words.specs.Reduction.{ReducedInto}
 use Rattle.words.specs.declared.Reduced.{Reduced}
-use Rattle.members.specs.Readings.{read_as, reading_as}
+use Rattle.members.specs.Readings.{reading_as}
 use Rattle.members.specs.Members.{query_word}
-use Rattle.members.specs.declared.Reading.{Reading}
-use Rattle.members.specs.declared.Reading.TheVariants.{Stopped, Ended}
-use Rattle.members.proofs.AnswerLaws.{alphabet_of_lem, fine, letters_left, cells_behind}
+use Rattle.members.specs.Stages.{is_at_base}
+use Rattle.members.specs.declared.Stop.{Stop}
+use Rattle.members.proofs.AnswerLaws.{reading_home, alphabet_of_lem, fine, letters_left, cells_behind}
 use Rattle.edges.specs.Edges.{Sound, marks_of}
 use Rattle.expressions.specs.Places.{places_of, numbered, AllAtEdge, Readable}
 use Rattle.expressions.specs.Parts.{is_home, notes_of, in_front, Marked, word_answer, word_out, marked_work, WordOutcome}
-use Rattle.expressions.specs.Expressions.{is_inside, numbers_of, express_refusal, expressed_for, work_for, out_for, ExpressOutcome}
-use Rattle.expressions.specs.declared.Expressed.{Expressed}
-use Rattle.expressions.specs.declared.Expressed.TheVariants.{Refused, Inside, Outside}
+use Rattle.expressions.specs.Expressions.{is_inside, numbers_of, express_refusal, expressed_of, work_for, out_for, ExpressOutcome}
 use Rattle.expressions.proofs.PlaceLaws.{places_at, places_noted, places_count}
 
 -- ── A reading ──
 
--- a reading that ended at the base
-abbrev home_of : Reading → Bool
-home_of (Stopped k v y) = false
-home_of (Ended v) = eqb v 0
+pub home_said : (n N : ℕ) (t w : List ℕ) {r : Result ℕ Stop} {b : Bool} → r ≡ reading_as n N t w → b ≡ is_at_base r → b ≡ is_home n N t w
+unfolding reading_as is_home
+home_said n N t w e f = f ∙ ap is_at_base e ∙ reading_home (cell n N t) 0 0 w
 
-home_read : (c : Cells) (k v : ℕ) (w : List ℕ) → home_of (read_as (reading_from c k v w)) ≡ is_at 0 (end_of c v w)
-unfolding reading_from end_of
-home_read c k v [] = refl
-home_read c k v (y ∷ w) =
-    by_cases (ℕ_discrete (c v y) absent) (λ e. rw (eq-eqb (c v y) absent e))
-    (λ e. rw (ne_eqb (c v y) absent e) (home_read c (suc k) (c v y) w))
+-- ── A room ──
 
-module _ (n N : ℕ) (t w : List ℕ) {r : Reading} (e : r ≡ reading_as n N t w) where
-  home_said : home_of r ≡ is_home n N t w
-  unfolding reading_as is_home
-  home_said = ap home_of e ∙ home_read (cell n N t) 0 0 w
+module _ (cause : Cause) (needed room : ℕ) where
+  pub room_held : {u : ⊤} → Ok u ≡ unless_short cause needed room → needed ≤ room
+  room_held {u} e =
+      by_test (ltb room needed)
+      (λ b. absurd (let y : Ok u ≡ Err (refusal_at cause needed) = rw b at e in let z : ◌≡◌ {A = ℕ} 0 1 = cc in omega arith))
+      (λ b. ltb-false room needed b)
 
-  pub home_stopped : {k v y : ℕ} → r ≡ Stopped k v y → false ≡ is_home n N t w
-  home_stopped f = sym (ap home_of f) ∙ home_said
-
-  pub home_ended : {v : ℕ} → r ≡ Ended v → eqb v 0 ≡ is_home n N t w
-  home_ended f = sym (ap home_of f) ∙ home_said
+  pub room_short : {r : Refusal} → Err r ≡ unless_short cause needed room → (room < needed) × (r ≡ refusal_at cause needed)
+  room_short {r} e =
+      by_test (ltb room needed) (λ b. let y : Err r ≡ Err (refusal_at cause needed) = rw b at e in (ltb-true room needed b, cc))
+      (λ b. absurd (let y : Err r ≡ Ok (tt {0}) = rw b at e in let z : ◌≡◌ {A = ℕ} 0 1 = cc in omega arith))
 
 -- ── Marks ──
 
@@ -112,12 +111,11 @@ module _ {n N : ℕ} {t : List ℕ} (w : List ℕ) {crossed : ℕ} (out : List �
   pub places_ready : AllAtEdge n N t (take crossed placed)
   places_ready = subst (AllAtEdge n N t) (sym first_places) (places_at R.0 w 0 0 R.1)
 
-  pub numbers_written : {after : List ℤ} → after ≡ map (numbered n N t) (take crossed placed) ++ drop crossed placed → after ≡ in_front (notes_of n N t w) out
+  -- the numbers in the places' stead, and what stands behind them
+  pub numbers_written : {numbers : List ℤ} → numbers ≡ map (numbered n N t) (take crossed placed) → numbers ++ drop crossed placed ≡ in_front (notes_of n N t w) out
   unfolding notes_of
   numbers_written f =
-      f
-      ∙ ap (λ l. map (numbered n N t) l ++ drop crossed placed) first_places
-      ∙ ap (λ l. l ++ drop crossed placed) (places_noted R.0 w 0 0 R.1)
+      ap (λ l. l ++ drop crossed placed) (f ∙ ap (map (numbered n N t)) first_places ∙ places_noted R.0 w 0 0 R.1)
       ∙ ap (λ l. notes_of n N t w ++ l)
       (ap (drop crossed) e
       ∙ drop_at (places_of n N t w) (drop (length (places_of n N t w)) out) crossed (sym h)
@@ -126,14 +124,11 @@ module _ {n N : ℕ} {t : List ℕ} (w : List ℕ) {crossed : ℕ} (out : List �
 -- ── A word ──
 
 module _ {n N : ℕ} {t : List ℕ} (w : List ℕ) where
-  pub word_outside : {marks : ℕ} {work : List ℕ} {out : List ℤ} {b : Bool} → b ≡ is_home n N t w → b ≡ false → WordOutcome n N t w marks work out Outside work out
-  word_outside e f = record { answer = rw (sym e ∙ f); numbers = rw (sym e ∙ f); cells = rw (sym e ∙ f) }
-
   pub word_readable : {b : Bool} → Sound n N t → b ≡ is_home n N t w → b ≡ true → Readable n N t w
   unfolding is_home
   word_readable S e f = (S, at (end_of (cell n N t) 0 w) (sym e ∙ f))
     where
-      at : (o : Option ℕ) → is_at 0 o ≡ true → o ≡ some 0
+      at : (o : Known ℕ) → is_at 0 o ≡ true → o ≡ some 0
       at none g = passes_fails g refl
       at (some v) g = ap some (eqb-true v 0 g)
 
@@ -146,19 +141,20 @@ module _ {n N : ℕ} {t : List ℕ} (w : List ℕ) where
     unfolding notes_of
     count_so = h ∙ places_count R.0 w R.1
 
-    pub word_narrow : {marks : ℕ} {work : List ℕ} {out : List ℤ} {r : Refusal} → length out < crossed → r ≡ given_as 9 crossed → WordOutcome n N t w marks work out (Refused r) work out
-    word_narrow {out = out} l g =
-        let b = lt-ltb (length out) (length (notes_of n N t w)) (omega (arith, count_so)) in
-        record { answer = ap Refused (g ∙ ap (given_as 9) count_so) ∙ rw (home_so, b); numbers = rw (home_so, b); cells = rw (home_so, b) }
+    pub word_narrow : {marks : ℕ} {work : List ℕ} {out : List ℤ} {r : Refusal} → Err r ≡ unless_short Output crossed (length out) → WordOutcome n N t w marks work out (Err r) work out
+    word_narrow {out = out} e =
+        let a = room_short Output crossed (length out) e in
+        let b = lt-ltb (length out) (length (notes_of n N t w)) (omega (arith, count_so, a.0)) in
+        record { answer = ap Err (a.1 ∙ ap (refusal_at Output) count_so) ∙ rw (home_so, b); numbers = rw (home_so, b); cells = rw (home_so, b) }
 
-    pub word_written : {marks : ℕ} {work : List ℕ} {out : List ℤ} {work' : List ℕ} {out' : List ℤ} → crossed ≤ length out → out' ≡ in_front (notes_of n N t w) out → work' ≡ marked_work n N t marks work
-        → WordOutcome n N t w marks work out (Inside crossed) work' out'
-    word_written {out = out} l e d =
-        let b = le-ltb (length out) (length (notes_of n N t w)) (omega (arith, count_so)) in
-        record { answer = ap Inside count_so ∙ rw (home_so, b); numbers = e ∙ rw (home_so, b); cells = d ∙ rw (home_so, b) }
+    pub word_written : {marks : ℕ} {work : List ℕ} {out : List ℤ} {work' : List ℕ} {out' : List ℤ} {u : ⊤} → Ok u ≡ unless_short Output crossed (length out)
+        → out' ≡ in_front (notes_of n N t w) out → work' ≡ marked_work n N t marks work → WordOutcome n N t w marks work out (Ok (Some crossed)) work' out'
+    word_written {out = out} a e d =
+        let b = le-ltb (length out) (length (notes_of n N t w)) (omega (arith, count_so, room_held Output crossed (length out) a)) in
+        record { answer = ap (λ k. Ok (Some k)) count_so ∙ rw (home_so, b); numbers = e ∙ rw (home_so, b); cells = d ∙ rw (home_so, b) }
 
   -- the cells behind the marks are as they were
-  pub word_kept : {marks : ℕ} {work : List ℕ} {out : List ℤ} {r : Expressed} {work' : List ℕ} {out' : List ℤ} → WordOutcome n N t w marks work out r work' out'
+  pub word_kept : {marks : ℕ} {work : List ℕ} {out : List ℤ} {r : Result (Option ℕ) Refusal} {work' : List ℕ} {out' : List ℤ} → WordOutcome n N t w marks work out r work' out'
       → drop (2 * marks) work' ≡ drop (2 * marks) work
   word_kept {marks} {work} {out} W =
       ap (drop (2 * marks)) W.cells
@@ -203,20 +199,24 @@ module _ (n N : ℕ) (t query : List ℕ) (room : ℕ) (e : member_refusal n N t
 
 module _ (n N : ℕ) (t query work : List ℕ) (out : List ℤ) where
   -- the answer and the buffers of a refusal known
-  told : (o : Option FirstCause) {r : Expressed} {work' : List ℕ} {out' : List ℤ} → express_refusal n N t query (length work) (length out) ≡ o
-      → r ≡ expressed_for n N t query o → work' ≡ work_for query work o → out' ≡ out_for n N t query out o → ExpressOutcome n N t query work out r work' out'
+  told : (o : Known FirstCause) {r : Result (Option ℕ) Refusal} {work' : List ℕ} {out' : List ℤ} → express_refusal n N t query (length work) (length out) ≡ o
+      → r ≡ unless o (expressed_of n N t query) → work' ≡ work_for query work o → out' ≡ out_for n N t query out o → ExpressOutcome n N t query work out r work' out'
   told o e a b d =
       record {
-        answer = a ∙ sym (ap (expressed_for n N t query) e);
+        answer = a ∙ sym (ap (λ x. unless x (expressed_of n N t query)) e);
         cells = b ∙ sym (ap (work_for query work) e);
         numbers = d ∙ sym (ap (out_for n N t query out) e);
       }
 
-  pub query_refused : {f : Found} {r : Refusal} → f ≡ found_as (member_refusal n N t query (length work)) → f ≡ Cause r → ExpressOutcome n N t query work out (Refused r) work out
+  pub query_refused : {r : Refusal} → Err r ≡ unless (member_refusal n N t query (length work)) (tt {0}) → ExpressOutcome n N t query work out (Err r) work out
   unfolding express_refusal
-  query_refused {f} {r} e g =
-      let a = found_cause (member_refusal n N t query (length work)) (sym g ∙ e) in
-      told (some a.0) (ap (λ o. or_else o (refused_if (is_inside n N t query && ltb (length out) (length (numbers_of n N t query))) 9 (length (numbers_of n N t query)))) a.1) (ap Refused a.2) (sym (rw (not_nine n N t query (length work) a.0 a.1))) refl
+  query_refused {r} e =
+      let a = unless_err (member_refusal n N t query (length work)) (tt {0}) e in
+      told (some a.0)
+      (ap (λ o. or_else o (refused_if (is_inside n N t query && ltb (length out) (length (numbers_of n N t query))) 9 (length (numbers_of n N t query)))) a.1)
+      (ap Err a.2)
+      (sym (rw (not_nine n N t query (length work) a.0 a.1)))
+      refl
 
   module _ (fit : member_refusal n N t query (length work) ≡ none) {r : Reduced} {after : List ℕ} (into : ReducedInto query work r after) where
     -- what 9 says
@@ -224,7 +224,7 @@ module _ (n N : ℕ) (t query work : List ℕ) (out : List ℤ) where
     unfolding express_refusal
     late_is = rw fit
 
-    module _ {marks : ℕ} {said : Expressed} {left cells : List ℕ} {numbers : List ℤ} (few : 2 * marks ≤ length query)
+    module _ {marks : ℕ} {said : Result (Option ℕ) Refusal} {left cells : List ℕ} {numbers : List ℤ} (few : 2 * marks ≤ length query)
         (W : WordOutcome n N t (take r.left after) marks after out said left numbers) (cleared : cells ≡ filled (length query) 0 left) where
       -- the needed cells are cleared, the later ones are as they were
       all_cleared : cells ≡ filled (length query) 0 work

@@ -4,9 +4,9 @@
 --   express_outside : nothing is written for another query, and no product of basis words reduces to it
 --   express_empty   : a query that reduces to nothing is inside, and nothing is written
 -- Assumes nothing.
-use mathlib.Core.Path.{◌≡◌, refl, sym, ◌∙◌, ap}
+use mathlib.Core.Path.{◌≡◌, sym, ◌∙◌, ap}
 use mathlib.Core.Bool.{true, false, ◌&&◌}
-use mathlib.Core.Option.{Option, none, some}
+use mathlib.Core.Option.{Option as Known, none}
 use mathlib.Core.List.{List, []}
 use Prim.Native.Nat.{ℕ}
 use native.Mathlib.Omega.{arith}
@@ -15,6 +15,10 @@ use lib.IntN.{ℤ}
 use lib.ListN.{length, take, drop}
 use lib.Seq.{take_at}
 use borrow.Author.Tests.{le-ltb}
+use Rattle.std.specs.declared.option.Option.{Option}
+use Rattle.std.specs.declared.option.Option.TheVariants.{None, Some}
+use Rattle.std.specs.declared.result.Result.{Result}
+use Rattle.std.specs.declared.result.Result.TheVariants.{Ok}
 use Rattle.theory.specs.Words.{reduced, product, AllNames, Tidy, Member, ◌≈◌}
 use Rattle.theory.specs.Letters.{usual}
 use Rattle.theory.specs.Refusals.{Refusal as FirstCause, or_else, refused_if}
@@ -27,10 +31,11 @@ use Rattle.theory.proofs.ReadLaws.{is_accepted_sound, is_accepted_complete}
 use Rattle.theory.proofs.PathLaws.{Setting}
 use Rattle.theory.proofs.TableRefusalLaws.{else_none}
 use Rattle.theory.proofs.ExpressionLaws.{expression_tidy, expression_product, expression_unique, basis_accepts}
+use Rattle.refusals.specs.Given.{unless}
+use Rattle.refusals.specs.declared.Refusal.{Refusal}
+use Rattle.refusals.proofs.UnlessLaws.{unless_ok}
 use Rattle.members.specs.Members.{query_word}
-use Rattle.expressions.specs.Expressions.{is_inside, numbers_of, express_refusal, expressed_for, out_for, ExpressOutcome}
-use Rattle.expressions.specs.declared.Expressed.{Expressed}
-use Rattle.expressions.specs.declared.Expressed.TheVariants.{Inside, Outside}
+use Rattle.expressions.specs.Expressions.{is_inside, numbers_of, express_refusal, expressed_of, out_for, ExpressOutcome}
 use Rattle.expressions.proofs.PlaceLaws.{setting}
 use Rattle.expressions.proofs.AnswerLaws.{sound_of}
 
@@ -39,34 +44,29 @@ pub record Expresses (n N : ℕ) (t query : List ℕ) (ks : List ℤ) : Type 0 w
   pub names : AllNames (length (basis_of (cell n N t) N (usual n))) ks
   pub reduces : product (basis_of (cell n N t) N (usual n)) ks ≈ query_word query
 
-module _ {n N : ℕ} {t query work : List ℕ} {out : List ℤ} {r : Expressed} {work' : List ℕ} {out' : List ℤ} (h : ExpressOutcome n N t query work out r work' out') where
-  abbrev refusal : Option FirstCause
+module _ {n N : ℕ} {t query work : List ℕ} {out : List ℤ} {r : Result (Option ℕ) Refusal} {work' : List ℕ} {out' : List ℤ} (h : ExpressOutcome n N t query work out r work' out') where
+  abbrev refusal : Known FirstCause
   refusal = express_refusal n N t query (length work) (length out)
 
-  -- an answer Inside k
-  inside_told : {k : ℕ} → r ≡ Inside k → (refusal ≡ none) × (is_inside n N t query ≡ true) × (k ≡ length (numbers_of n N t query))
-  inside_told {k} e = at refusal refl (sym e ∙ h.answer)
+  -- an answer that says how many numbers are written
+  inside_told : {k : ℕ} → r ≡ Ok (Some k) → (refusal ≡ none) × (is_inside n N t query ≡ true) × (k ≡ length (numbers_of n N t query))
+  inside_told {k} e =
+      by_test (is_inside n N t query)
+      (λ i. let y : Some k ≡ Some (length (numbers_of n N t query)) = rw i at a.1 in (a.0, i, cc))
+      (λ i. absurd (let y : Some k ≡ None = rw i at a.1 in let z : ◌≡◌ {A = ℕ} 0 1 = cc in omega arith))
     where
-      same : (a b : ℕ) → Inside a ≡ Inside b → a ≡ b
-      same a b z = cc
+      a : (refusal ≡ none) × (Some k ≡ expressed_of n N t query)
+      a = unless_ok refusal (expressed_of n N t query) (sym e ∙ h.answer)
 
-      at : (o : Option FirstCause) → refusal ≡ o → Inside k ≡ expressed_for n N t query o
-          → (refusal ≡ none) × (is_inside n N t query ≡ true) × (k ≡ length (numbers_of n N t query))
-      at none q a =
-          by_test (is_inside n N t query) (λ i. (q, i, same k (length (numbers_of n N t query)) (rw i at a)))
-          (λ i. absurd (let y : Inside k ≡ Outside = rw i at a in let z : ◌≡◌ {A = ℕ} 0 1 = cc in omega arith))
-      at (some f) q a = absurd (let z : ◌≡◌ {A = ℕ} 0 1 = cc in omega arith)
-
-  -- an answer Outside
-  outside_told : r ≡ Outside → (refusal ≡ none) × (is_inside n N t query ≡ false)
-  outside_told e = at refusal refl (sym e ∙ h.answer)
+  -- an answer that says that there are none
+  outside_told : r ≡ Ok None → (refusal ≡ none) × (is_inside n N t query ≡ false)
+  outside_told e =
+      by_test (is_inside n N t query)
+      (λ i. absurd (let y : None ≡ Some (length (numbers_of n N t query)) = rw i at a.1 in let z : ◌≡◌ {A = ℕ} 0 1 = cc in omega arith))
+      (λ i. (a.0, i))
     where
-      at : (o : Option FirstCause) → refusal ≡ o → Outside ≡ expressed_for n N t query o → (refusal ≡ none) × (is_inside n N t query ≡ false)
-      at none q a =
-          by_test (is_inside n N t query)
-          (λ i. absurd (let y : Outside ≡ Inside (length (numbers_of n N t query)) = rw i at a in let z : ◌≡◌ {A = ℕ} 0 1 = cc in omega arith))
-          (λ i. (q, i))
-      at (some f) q a = absurd (let z : ◌≡◌ {A = ℕ} 0 1 = cc in omega arith)
+      a : (refusal ≡ none) × (None ≡ expressed_of n N t query)
+      a = unless_ok refusal (expressed_of n N t query) (sym e ∙ h.answer)
 
   -- the table of an answer is canonical
   canonical_told : refusal ≡ none → Setting (cell n N t) N (usual n)
@@ -74,14 +74,14 @@ module _ {n N : ℕ} {t query work : List ℕ} {out : List ℤ} {r : Expressed} 
   canonical_told e = setting (sound_of n N t query (length work) (else_none (member_refusal n N t query (length work)) _ e).0)
 
   -- the numbers written
-  first_numbers : {k : ℕ} → r ≡ Inside k → take k out' ≡ expression_of (cell n N t) N (usual n) (query_word query)
+  first_numbers : {k : ℕ} → r ≡ Ok (Some k) → take k out' ≡ expression_of (cell n N t) N (usual n) (query_word query)
   unfolding numbers_of
   first_numbers {k} e =
       let a = inside_told e in
       ap (take k) (h.numbers ∙ ap (out_for n N t query out) a.0 ∙ rw a.1)
       ∙ take_at (numbers_of n N t query) (drop (length (numbers_of n N t query)) out) k (sym a.2)
 
-  pub express_inside : {k : ℕ} → r ≡ Inside k → Expresses n N t query (take k out') × ((ks : List ℤ) → Expresses n N t query ks → ks ≡ take k out')
+  pub express_inside : {k : ℕ} → r ≡ Ok (Some k) → Expresses n N t query (take k out') × ((ks : List ℤ) → Expresses n N t query ks → ks ≡ take k out')
   express_inside {k} e = (rw (first_numbers e) held, λ ks x. expression_unique S ks (query_word query) x.names x.tidy x.reduces ∙ sym (first_numbers e))
     where
       S : Setting (cell n N t) N (usual n)
@@ -95,7 +95,7 @@ module _ {n N : ℕ} {t query work : List ℕ} {out : List ℤ} {r : Expressed} 
           let a = expression_tidy S (query_word query) accepted in
           record { tidy = a.0; names = a.1; reduces = expression_product S (query_word query) accepted }
 
-  pub express_outside : r ≡ Outside → (out' ≡ out) × (Member (basis_of (cell n N t) N (usual n)) (query_word query) → ⊥)
+  pub express_outside : r ≡ Ok None → (out' ≡ out) × (Member (basis_of (cell n N t) N (usual n)) (query_word query) → ⊥)
   express_outside e =
       let a = outside_told e in (
         h.numbers ∙ ap (out_for n N t query out) a.0 ∙ rw a.1,
@@ -118,8 +118,8 @@ module _ {n N : ℕ} {t query work : List ℕ} {out : List ℤ} {r : Expressed} 
         ap (λ o. or_else o (refused_if (is_inside n N t query && ltb (length out) (length (numbers_of n N t query))) 9 (length (numbers_of n N t query)))) fit
         ∙ rw (home, no_numbers, le-ltb (length out) 0 (omega arith))
 
-    pub express_empty : (r ≡ Inside 0) × (out' ≡ out)
+    pub express_empty : (r ≡ Ok (Some 0)) × (out' ≡ out)
     express_empty = (
-      h.answer ∙ ap (expressed_for n N t query) answered ∙ rw (home, no_numbers),
+      h.answer ∙ ap (λ o. unless o (expressed_of n N t query)) answered ∙ rw (home, no_numbers),
       h.numbers ∙ ap (out_for n N t query out) answered ∙ rw (home, no_numbers),
     )

@@ -19,6 +19,7 @@ use lib.Arith.{digits_div, digits_mod}
 use lib.IntN.{ℤ, pos, negsuc, neg_ℤ, nat_abs}
 use lib.ListN.{length, length-map}
 use borrow.Author.Tests.{eq-eqb, ne_eqb, not-true, not-false}
+use Rattle.std.proofs.lemmas.List.{map-append}
 use Rattle.theory.specs.Words.{inv}
 use Rattle.theory.specs.Letters.{usual}
 use Rattle.theory.specs.Tables.{absent, Cells, cell, Leads, end_of}
@@ -54,10 +55,6 @@ end_step c v y w x e =
     (λ z. absurd (none-ne-some x (rw (eq-eqb (c v y) absent z) at e)))
     (λ z. (z, rw (ne_eqb (c v y) absent z) at e))
 
-map-append : {A B : Type 0} (f : A → B) (k l : List A) → map f (k ++ l) ≡ map f k ++ map f l
-map-append f [] l = refl
-map-append f (a ∷ k) l = ap (λ m. f a ∷ m) (map-append f k l)
-
 -- a place of the table is far below 2³¹
 pub place_small : (n N v y : ℕ) → n ≤ 26 → N ≤ 1048577 → v < N → y < 2 * n → v * (2 * n) + y + 1 ≤ 54526004
 place_small n N v y hn hN hv hy =
@@ -80,17 +77,8 @@ module _ (n v y x : ℕ) where
       rw (ne_eqb (y % 2) 0 e)
       (ap (λ k. neg_ℤ (pos k)) (add-one (x * (2 * n) + z)) ∙ ap (λ k. negsuc (x * (2 * n) + k)) h)
 
--- the edge at a place, where the place's size is known
-module _ {n N : ℕ} {t : List ℕ} {z : ℤ} {m : ℕ} (a : AtEdge n N t z) (e : m ≡ nat_abs z) where
-  pub point_at : (m - 1) / (2 * n) < N
-  point_at = subst (λ k. (k - 1) / (2 * n) < N) (sym e) a.point
-
-  pub edge_at : is_edge (cell n N t) (record { point = (m - 1) / (2 * n); letter = (m - 1) % (2 * n) }) ≡ true
-  edge_at = subst (λ k. is_edge (cell n N t) (record { point = (k - 1) / (2 * n); letter = (k - 1) % (2 * n) }) ≡ true) (sym e) a.edge
-
-  pub outside_at : is_outside (cell n N t) N (usual n) ((m - 1) / (2 * n)) ((m - 1) % (2 * n)) ≡ true
-  outside_at = subst (λ k. is_outside (cell n N t) N (usual n) ((k - 1) / (2 * n)) ((k - 1) % (2 * n)) ≡ true) (sym e) a.outside
-
+-- the number of the edge at a place, where the place's size is known
+module _ (n N : ℕ) (t : List ℕ) (z : ℤ) {m : ℕ} (e : m ≡ nat_abs z) where
   -- its number, with the sign of the place
   pub number_signed : {k : ℕ} {b : Bool} → k ≡ number_in (outside_edges (cell n N t) N (usual n)) 1 ((m - 1) / (2 * n)) ((m - 1) % (2 * n)) → b ≡ is_back z
       → signed_by b k ≡ numbered n N t z

@@ -10,9 +10,13 @@ use Rattle.theory.specs.Letters.{usual}
 use Rattle.theory.specs.Tables.{cell, end_of, is_at}
 use Rattle.theory.specs.Basis.{crossings}
 use Rattle.edges.specs.Edges.{Sound, marks_of}
-use Rattle.refusals.specs.Given.{given_as}
-use Rattle.expressions.specs.declared.Expressed.{Expressed}
-use Rattle.expressions.specs.declared.Expressed.TheVariants.{Refused, Inside, Outside}
+use Rattle.std.specs.declared.option.Option.{Option}
+use Rattle.std.specs.declared.option.Option.TheVariants.{None, Some}
+use Rattle.std.specs.declared.result.Result.{Result}
+use Rattle.std.specs.declared.result.Result.TheVariants.{Ok, Err}
+use Rattle.refusals.specs.declared.Cause.TheVariants.{Output}
+use Rattle.refusals.specs.declared.Refusal.{Refusal}
+use Rattle.refusals.specs.Given.{refusal_at}
 
 unfoldable pub is_home : ℕ → ℕ → List ℕ → List ℕ → Bool
 is_home n N t w = is_at 0 (end_of (cell n N t) 0 w)
@@ -30,11 +34,11 @@ pub record Marked (n N : ℕ) (t work : List ℕ) (marks : ℕ) : Type 0 where
   pub few : marks ≤ 1048576
   pub marked : take (2 * marks) work ≡ marks_of (cell n N t) N (usual n) marks marks
 
-abbrev pub word_answer : ℕ → ℕ → List ℕ → List ℕ → ℕ → Expressed
+abbrev pub word_answer : ℕ → ℕ → List ℕ → List ℕ → ℕ → Result (Option ℕ) Refusal
 word_answer n N t w space =
     cond (is_home n N t w)
-    (cond (ltb space (length (notes_of n N t w))) (Refused (given_as 9 (length (notes_of n N t w))))
-    (Inside (length (notes_of n N t w)))) Outside
+    (cond (ltb space (length (notes_of n N t w))) (Err (refusal_at Output (length (notes_of n N t w))))
+    (Ok (Some (length (notes_of n N t w))))) (Ok None)
 
 abbrev pub word_out : ℕ → ℕ → List ℕ → List ℕ → List ℤ → List ℤ
 word_out n N t w out =
@@ -47,7 +51,7 @@ abbrev pub word_work : ℕ → ℕ → List ℕ → List ℕ → ℕ → ℕ →
 word_work n N t w marks space work =
     cond (is_home n N t w) (cond (ltb space (length (notes_of n N t w))) work (marked_work n N t marks work)) work
 
-pub record WordOutcome (n N : ℕ) (t w : List ℕ) (marks : ℕ) (work : List ℕ) (out : List ℤ) (r : Expressed) (work' : List ℕ) (out' : List ℤ) : Type 0 where
+pub record WordOutcome (n N : ℕ) (t w : List ℕ) (marks : ℕ) (work : List ℕ) (out : List ℤ) (r : Result (Option ℕ) Refusal) (work' : List ℕ) (out' : List ℤ) : Type 0 where
   pub answer : r ≡ word_answer n N t w (length out)
   pub numbers : out' ≡ word_out n N t w out
   pub cells : work' ≡ word_work n N t w marks (length out) work

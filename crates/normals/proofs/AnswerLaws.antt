@@ -1,15 +1,18 @@
 -- What `normal` says, on plain values: what is refused, and what is judged where nothing is.
---   refused, judged : the outcomes
+--   refused, judged : the outcomes; ready : what holds where it is to be judged
 --   normal_refusal_first : the computed refusal is the first cause; normal_refusal_none : it is none exactly if no cause applies
 -- Assumes nothing.
 use mathlib.Core.Path.{◌≡◌, refl, sym, ◌∙◌, ap, subst}
 use mathlib.Core.Logic.{⊎_elim, ◌↔◌}
-use mathlib.Core.Bool.{Bool, cond}
+use mathlib.Core.Bool.{Bool}
 use mathlib.Core.Option.{Option, none, some}
 use mathlib.Core.List.{List}
 use Prim.Native.Nat.{ℕ, ◌*◌, ◌≤◌}
 use native.Mathlib.Omega.{arith}
 use lib.ListN.{length}
+use Rattle.std.specs.Prelude.{⊤}
+use Rattle.std.specs.declared.result.Result.{Result}
+use Rattle.std.specs.declared.result.Result.TheVariants.{Ok, Err}
 use Rattle.theory.specs.Letters.{usual}
 use Rattle.theory.specs.Refusals.{Refusal as FirstCause, turn, First, Only, or_else}
 use Rattle.theory.specs.TableRefusals.{Cause8, cell_refusal}
@@ -17,33 +20,38 @@ use Rattle.theory.specs.Tables.{absent, cell}
 use Rattle.theory.specs.Basis.{is_normal}
 use Rattle.theory.proofs.TableRefusalLaws.{Decides, decided_first, decided_none, join, alphabet_decides, lent_decides, short_decides, cells_decide, points_small}
 use Rattle.cells.specs.Filled.{filled}
-use Rattle.refusals.specs.Given.{found_as}
+use Rattle.refusals.specs.Given.{unless}
 use Rattle.refusals.specs.declared.Refusal.{Refusal}
-use Rattle.refusals.specs.declared.Found.{Found}
-use Rattle.refusals.specs.declared.Found.TheVariants.{Cause}
-use Rattle.refusals.proofs.FoundLaws.{found_cause}
+use Rattle.refusals.proofs.UnlessLaws.{unless_err}
+use Rattle.paths.specs.Paths.{Ready}
 use Rattle.bases.specs.Bases.{early_refusal}
-use Rattle.normals.specs.Normals.{NormalCause, normal_refusal, judged_for, work_for, NormalOutcome}
-use Rattle.normals.specs.declared.Judged.{Judged}
-use Rattle.normals.specs.declared.Judged.TheVariants.{Refused, Normal, Other}
+use Rattle.bases.proofs.AnswerLaws.{early_fine, early_none}
+use Rattle.normals.specs.Normals.{NormalCause, normal_refusal, work_for, NormalOutcome}
 
 module _ (n N : ℕ) (t work : List ℕ) where
   -- the answer and the cells of a refusal known
-  told : (o : Option FirstCause) {r : Judged} {after : List ℕ} → normal_refusal n N t (length work) ≡ o → r ≡ judged_for n N t o
-      → after ≡ work_for N work o → NormalOutcome n N t work r after
-  told o e a b = record { answer = a ∙ sym (ap (judged_for n N t) e); cells = b ∙ sym (ap (work_for N work) e) }
+  told : (o : Option FirstCause) {r : Result Bool Refusal} {after : List ℕ} → normal_refusal n N t (length work) ≡ o
+      → r ≡ unless o (is_normal (cell n N t) N (usual n)) → after ≡ work_for N work o → NormalOutcome n N t work r after
+  told o e a b =
+      record {
+        answer = a ∙ sym (ap (λ o. unless o (is_normal (cell n N t) N (usual n))) e);
+        cells = b ∙ sym (ap (work_for N work) e);
+      }
 
-  pub refused : {f : Found} {r : Refusal} → f ≡ found_as (early_refusal n N t (length work) none) → f ≡ Cause r
-      → NormalOutcome n N t work (Refused r) work
+  pub refused : {r : Refusal} → Err r ≡ unless (early_refusal n N t (length work) none) (tt {0}) → NormalOutcome n N t work (Err r) work
   unfolding normal_refusal
-  refused e g =
-      let a = found_cause (early_refusal n N t (length work) none) (sym g ∙ e) in told (some a.0) a.1 (ap Refused a.2) refl
+  refused e =
+      let a = unless_err (early_refusal n N t (length work) none) (tt {0}) e in told (some a.0) a.1 (ap Err a.2) refl
 
-  module _ (fine : early_refusal n N t (length work) none ≡ none) {b : Bool} (e : b ≡ is_normal (cell n N t) N (usual n))
-      {after : List ℕ} (d : after ≡ filled (4 * N) 0 work) where
-    pub judged : (a : Bool) → b ≡ a → NormalOutcome n N t work (cond a Normal Other) after
+  module _ {u : ⊤} (fine : Ok u ≡ unless (early_refusal n N t (length work) none) (tt {0})) where
+    -- the table is ready to be judged, and there is room
+    pub ready : Ready n N t (length work) × (4 * N ≤ length work)
+    ready = early_fine n N t (length work) (early_none n N t (length work) fine)
+
+    pub judged : {b : Bool} {after : List ℕ} → b ≡ is_normal (cell n N t) N (usual n) → after ≡ filled (4 * N) 0 work
+        → NormalOutcome n N t work (Ok b) after
     unfolding normal_refusal
-    judged a f = told none fine (ap (λ z. cond z Normal Other) (sym f ∙ e)) d
+    judged e d = told none (early_none n N t (length work) fine) (ap Ok e) d
 
 -- ── The first cause ──
 

@@ -5,8 +5,10 @@ use mathlib.Core.Path.{◌≡◌, sym, ◌∙◌}
 use mathlib.Core.List.{List}
 use Prim.Native.Nat.{ℕ}
 use Rattle.normals.specs.Normals.{NormalOutcome}
-use Rattle.normals.specs.declared.Judged.{Judged}
+use mathlib.Core.Bool.{Bool}
+use Rattle.refusals.specs.declared.Refusal.{Refusal}
+use Rattle.std.specs.declared.result.Result.{Result}
 
-pub normal_determined : (n N : ℕ) (t work : List ℕ) (r s : Judged) (after cells : List ℕ)
+pub normal_determined : (n N : ℕ) (t work : List ℕ) (r s : Result Bool Refusal) (after cells : List ℕ)
     → NormalOutcome n N t work r after → NormalOutcome n N t work s cells → (r ≡ s) × (after ≡ cells)
 normal_determined n N t work r s after cells h k = (h.answer ∙ sym k.answer, h.cells ∙ sym k.cells)

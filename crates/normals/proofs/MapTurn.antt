@@ -15,6 +15,8 @@ use native.Mathlib.Decide.{ℕ_discrete}
 use native.Mathlib.Numerals.{add-one}
 use native.Mathlib.Omega.{arith}
 use lib.ListN.{length, get_or, set, drop, replicate, length-set, length-replicate, replicate-append-replicate}
+use Rattle.std.specs.declared.option.Option.{Option}
+use Rattle.std.specs.declared.option.Option.TheVariants.{None, Some}
 use lib.Seq.{get_or-set_same, get_or-set_other, drop-set-lt, drop_at}
 use Rattle.theory.specs.Letters.{usual}
 use Rattle.theory.specs.Tables.{absent, Cells, Leads, Reads, cell}
@@ -120,7 +122,7 @@ module _ {n N : ℕ} {t : List ℕ} {room : ℕ} (R : Ready n N t room) {p : ℕ
             within = λ m. R.canonical.within v y (c v y) (refl, m);
           }
 
-      turn_passed : {m : ℕ} {after : List ℕ} → Passed c work v y g m after → Follow n N t p v (suc y) g work
+      turn_passed : {m : Option ℕ} {after : List ℕ} → Passed c work v y g m after → Follow n N t p v (suc y) g work
       turn_passed P =
           record {
             passed = met_old R F.passed hv hy (sym (new_none g (c v y) P.nowhere));
@@ -130,7 +132,7 @@ module _ {n N : ℕ} {t : List ℕ} {room : ℕ} (R : Ready n N t room) {p : ℕ
             room_for = F.room_for;
           }
 
-      turn_same : {m : ℕ} {after : List ℕ} → Same c work v y g m after → Follow n N t p v (suc y) g work
+      turn_same : {m : Option ℕ} {after : List ℕ} → Same c work v y g m after → Follow n N t p v (suc y) g work
       turn_same P =
           record {
             passed = met_old R F.passed hv hy (sym (new_some g (c v y) P.there) ∙ le-ltb g (c v y) P.seen);
@@ -145,7 +147,7 @@ module _ {n N : ℕ} {t : List ℕ} {room : ℕ} (R : Ready n N t room) {p : ℕ
               (subst (λ z. Leads c (get_or work v 0) z (get_or work (c v z) 0)) (sym f)
               (sym P.agree, λ z. P.on (sym P.agree ∙ z)))
 
-      turn_new : {m : ℕ} {after : List ℕ} → New c work v y g m after
+      turn_new : {m : Option ℕ} {after : List ℕ} → New c work v y g m after
           → Follow n N t p v (suc y) (c v y) (set work (c v y) (c (get_or work v 0) y))
       turn_new P =
           record {
@@ -197,7 +199,7 @@ module _ {n N : ℕ} {t : List ℕ} {room : ℕ} (R : Ready n N t room) {p : ℕ
               (subst (λ z. Leads c (get_or after v 0) z (get_or after (c v z) 0)) (sym f)
               (subst (λ z. Leads c z y (get_or after (c v y) 0)) (sym (same v v_met)) (sym hit, λ z. P.on (sym hit ∙ z))))
 
-      apart_false : {m : ℕ} {after : List ℕ} → Apart c work v y g m after → leads_back c N (usual n) p ≡ false
+      apart_false : {m : Option ℕ} {after : List ℕ} → Apart c work v y g m after → leads_back c N (usual n) p ≡ false
       apart_false P = fails (leads_back c N (usual n) p) (λ back. ⊎_elim (gone back) (other back) P.why)
         where
           gone : leads_back c N (usual n) p ≡ true → c (get_or work v 0) y ≡ absent → ⊥
@@ -211,28 +213,29 @@ module _ {n N : ℕ} {t : List ℕ} {room : ℕ} (R : Ready n N t room) {p : ℕ
               d.1 (sym (image_step (ready_setting R) p back v y (c v y) (get_or work v 0) (get_or work (c v y) 0) (refl, P.there)
               (F.images v v_met) (F.images (c v y) d.0)).0)
 
-      module _ {m : ℕ} {after : List ℕ} (q : m ≡ carried_met c work v y g) (r : after ≡ carried_cells c work v y g) where
-        pub follow_turn : (m ≡ absent → ⊥) → Follow n N t p v (y + 1) m after
-        follow_turn a =
+      module _ {o : Option ℕ} {after : List ℕ} (q : o ≡ carried_met c work v y g) (r : after ≡ carried_cells c work v y g) where
+        pub follow_turn : {m : ℕ} → o ≡ Some m → Follow n N t p v (y + 1) m after
+        follow_turn {m} a =
             rw (add-one y)
-            (⊎_elim (λ P. at P.met P.cells (turn_passed P))
-            (⊎_elim (λ P. at P.met P.cells (turn_new P))
-            (⊎_elim (λ P. at P.met P.cells (turn_same P)) (λ P. absurd (a P.met))))
+            (⊎_elim (λ P. at (is P.met) P.cells (turn_passed P))
+            (⊎_elim (λ P. at (is P.met) P.cells (turn_new P))
+            (⊎_elim (λ P. at (is P.met) P.cells (turn_same P)) (λ P. absurd (let z : Some m ≡ None = sym a ∙ P.met in cc))))
             (carried_cases c work v y g q r))
           where
+            is : {k : ℕ} → o ≡ Some k → m ≡ k
+            is {k} e = let z : Some m ≡ Some k = sym a ∙ e in cc
+
             at : {k : ℕ} {l : List ℕ} → m ≡ k → after ≡ l → Follow n N t p v (suc y) k l → Follow n N t p v (suc y) m after
             at e f h =
                 subst (λ k. Follow n N t p v (suc y) k after) (sym e) (subst (Follow n N t p v (suc y) _) (sym f) h)
 
-        pub follow_stuck : m ≡ absent → leads_back c N (usual n) p ≡ false
+        pub follow_stuck : o ≡ None → leads_back c N (usual n) p ≡ false
         follow_stuck a =
-            ⊎_elim (λ P. absurd (small P.met))
-            (⊎_elim (λ P. absurd (P.there (sym P.met ∙ a)))
-            (⊎_elim (λ P. absurd (small P.met)) apart_false))
+            ⊎_elim (λ P. absurd (some P.met)) (⊎_elim (λ P. absurd (some P.met)) (⊎_elim (λ P. absurd (some P.met)) apart_false))
             (carried_cases c work v y g q r)
           where
-            small : m ≡ g → ⊥
-            small e = omega (arith, F.passed.below, (ready_sizes R).points)
+            some : {k : ℕ} → o ≡ Some k → ⊥
+            some {k} e = let z : Some k ≡ None = sym e ∙ a in cc
 
         -- only an image is set
         pub behind_turn : Behind N work after

@@ -2,52 +2,40 @@
 #![tactic(auto)]
 
 ghost use Rattle.std.specs.Prelude.{◌≡◌, ◌*◌, ◌≤◌, ◌<◌, length};
-ghost use Rattle.std.proofs.Math.Option.{none};
 ghost use Rattle.theory.specs.Letters.{usual};
 ghost use Rattle.theory.specs.Tables.{cell};
 ghost use Rattle.theory.specs.Basis.{leads_back, is_normal};
 ghost use Rattle.cells.specs.Filled.{filled};
 ghost use Rattle.paths.specs.Paths.{Ready};
-ghost use Rattle.bases.specs.Bases.{early_refusal};
 ghost use Rattle.normals.specs.Maps.{Carrying, carried_met, carried_cells, passes_base};
 ghost use Rattle.normals.specs.Normals.{NormalOutcome};
 
-use refusals::{Found, Refusal};
+use cells::ABSENT;
+use refusals::Refusal;
 use tables::Subgroup;
 
-// What is said of a subgroup: a refusal, or whether it is normal.
-#[derive(Clone, Copy)]
-pub enum Judged {
-    Refused(Refusal),
-    Normal,
-    Other,
-}
-
-// The absent mark.
-const ABSENT: u32 = 4294967295;
-
-// Carries the cell of letter y at v over to the image of v. Answers the greatest point met, or the absent mark where it cannot be carried.
-fn carry(s: Subgroup, table: &[u32], work: &mut [u32], v: usize, y: usize, met: u32) -> u32
+// Carries the cell of letter y at v over to the image of v. Answers the greatest point met, or none where it cannot be carried.
+fn carry(s: Subgroup, table: &[u32], work: &mut [u32], v: usize, y: usize, met: u32) -> Option<u32>
     requires { Carrying s.n s.points table.now work.old v y }
     ensures met { result ≡ carried_met (cell s.n s.points table.now) work.old v y met }
     ensures cells { work.new ≡ carried_cells (cell s.n s.points table.now) work.old v y met }
 {
     let x = tables::cell_at(s, table, v, y);
     if x == ABSENT {
-        return met;
+        return Some(met);
     }
     let image = tables::cell_at(s, table, work[v] as usize, y);
     if image == ABSENT {
-        return ABSENT;
+        return None;
     }
     if met < x {
         work[x as usize] = image;
-        return x;
+        return Some(x);
     }
     if work[x as usize] != image {
-        return ABSENT;
+        return None;
     }
-    met
+    Some(met)
 }
 
 // Whether every basis word leads from p back to p: exactly if all cells of the table can be carried over from the base to p.
@@ -60,19 +48,14 @@ fn leads_back(s: Subgroup, table: &[u32], work: &mut [u32], p: u32) -> bool
     let points = s.points as usize;
     work[0] = p;
     let mut met: u32 = 0;
-    let mut v: usize = 0;
-    while v < points {
-        let mut y: usize = 0;
-        while y < w {
-            let next = carry(s, table, work, v, y, met);
-            if next == ABSENT {
+    for v in 0..points {
+        for y in 0..w {
+            let Some(next) = carry(s, table, work, v, y, met) else {
                 cells::fill(work, points, 0);
                 return false;
-            }
+            };
             met = next;
-            y += 1;
         }
-        v += 1;
     }
     cells::fill(work, points, 0);
     true
@@ -103,33 +86,18 @@ fn is_normal(s: Subgroup, table: &[u32], work: &mut [u32]) -> bool
     let w = 2 * (s.n as usize);
     let cells = 4 * (s.points as usize);
     cells::fill(work, cells, 0);
-    let mut letter: usize = 0;
-    while letter < w {
+    for letter in 0..w {
         if !passes(s, table, work, letter) {
             return false;
         }
-        letter += 1;
     }
     true
 }
 
-// Whether the subgroup is normal, where 1, 6, 7 and 8 do not apply.
-fn judge(s: Subgroup, table: &[u32], work: &mut [u32]) -> Judged
-    requires { early_refusal s.n s.points table.now (length work.old) none ≡ none }
-    ensures outcome { NormalOutcome s.n s.points table.now work.old result work.new }
-{
-    if is_normal(s, table, work) {
-        return Judged::Normal;
-    }
-    Judged::Other
-}
-
 // Says whether the subgroup of a table handed in is normal, or refuses: 1, 6, 7, 8.
-pub fn normal(s: Subgroup, table: &[u32], work: &mut [u32]) -> Judged
+pub fn normal(s: Subgroup, table: &[u32], work: &mut [u32]) -> Result<bool, Refusal>
     ensures outcome { NormalOutcome s.n s.points table.now work.old result work.new }
 {
-    match bases::early_cause(s, table, work.len()) {
-        Found::Cause(r) => Judged::Refused(r),
-        Found::Nothing => judge(s, table, work),
-    }
+    bases::check_early(s, table, work.len())?;
+    Ok(is_normal(s, table, work))
 }

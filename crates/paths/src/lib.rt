@@ -6,10 +6,8 @@ ghost use Rattle.theory.specs.Tables.{cell};
 ghost use Rattle.paths.specs.Paths.{Ready, PathsOutcome};
 ghost use Rattle.paths.specs.Notes.{noted, is_new, Noting, met_after, noted_after};
 
+use cells::ABSENT;
 use tables::Subgroup;
-
-// The absent mark.
-const ABSENT: u32 = 4294967295;
 
 // Notes that x is first met at point v by letter y, at the end of a path of `depth` letters.
 fn note(points: usize, work: &mut [u32], x: usize, v: u32, y: u32, depth: u32)
@@ -25,10 +23,7 @@ fn note(points: usize, work: &mut [u32], x: usize, v: u32, y: u32, depth: u32)
 fn is_new(met: u32, x: u32) -> bool
     ensures new { result ≡ is_new met x }
 {
-    if x == ABSENT {
-        return false;
-    }
-    met < x
+    x != ABSENT && met < x
 }
 
 // The cell of letter y at v is passed: a new point is noted. Answers the greatest point met.
@@ -56,13 +51,9 @@ pub fn note_paths(s: Subgroup, table: &[u32], work: &mut [u32])
     let points = s.points as usize;
     note(points, work, 0, 0, 0, 0);
     let mut met: u32 = 0;
-    let mut v: usize = 0;
-    while v < points {
-        let mut y: usize = 0;
-        while y < w {
+    for v in 0..points {
+        for y in 0..w {
             met = visit(s, table, work, v, y, met);
-            y += 1;
         }
-        v += 1;
     }
 }

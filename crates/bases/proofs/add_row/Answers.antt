@@ -12,9 +12,6 @@ loop-y-init c = sum_first c.requires.0 c.requires.1 c.requires.2
 pub add_word-sum-requires : goal.add_word-sum-requires
 add_word-sum-requires c = let b = sum_small c.requires.0 c.requires.1 c.requires.2 c.loop-y.invariant in (record { pathed = c.requires.0; point = c.requires.1; letter = c.loop-y-test.true }, b.0, b.1)
 
-pub overflow_add-y : goal.overflow_add-y
-overflow_add-y c = omega (arith, (pathed_sizes c.requires.0).letters, c.loop-y-test.true)
-
 pub loop-y-preserved : goal.loop-y-preserved
 loop-y-preserved c = sum_turn c.requires.0 c.requires.1 c.requires.2 c.loop-y.invariant c.loop-y-test.true c.add_word-sum.ensures.size
 

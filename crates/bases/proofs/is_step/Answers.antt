@@ -1,13 +1,14 @@
--- `bases::is_step` meets its contract. The base, another point, or the letter (`ChainLaws`).
+-- `bases::is_step` meets its contract. The test is that of the definition.
 -- Assumes nothing.
-use Rattle.bases.proofs.ChainLaws.{step_base, step_other, step_last}
+use Rattle.bases.specs.Chains.{is_noted_step}
+use Rattle.std.proofs.Common.{arith}
+use Rattle.std.proofs.lemmas.Grind.{common_steps}
 use Rattle.bases.proofs.is_step.Goals as goal
 
-pub returns-then-x-eq0 : goal.returns-then-x-eq0
-returns-then-x-eq0 c = record { step = step_base _ _ _ _ _ c.if-x-eq0.true }
-
 pub returns-then-work-x : goal.returns-then-work-x
-returns-then-work-x c = record { step = step_other _ _ _ _ _ c.if-x-eq0.false c.if-work-x.true }
+unfolding is_noted_step
+returns-then-work-x c = grind (arith, common_steps)
 
-pub returns : goal.returns
-returns c = record { step = step_last _ _ _ _ _ c.if-x-eq0.false c.if-work-x.false }
+pub returns-else-work-x : goal.returns-else-work-x
+unfolding is_noted_step
+returns-else-work-x c = grind (arith, common_steps)

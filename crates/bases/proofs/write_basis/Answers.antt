@@ -17,14 +17,14 @@ measure-size-requires c = ready_after _ _ _ _ c.args.out.now c.requires c.note_p
 pub fill-requires : goal.fill-requires
 fill-requires c = omega (arith, room_after _ _ _ _ c.args.out.now c.requires c.note_paths.ensures.paths)
 
-pub returns-then-out-bytes : goal.returns-then-out-bytes
-returns-then-out-bytes c = record { outcome = late_refused _ _ _ _ _ c.requires c.note_paths.ensures.paths c.measure-size.ensures.size c.if-out-bytes.true c.refuse.ensures.made c.fill.ensures.filled }
+pub returns-then-out-size : goal.returns-then-out-size
+returns-then-out-size c = record { outcome = late_refused _ _ _ _ _ c.requires c.note_paths.ensures.paths c.measure-size.ensures.size c.if-out-size.true c.refuse.ensures.made c.fill.ensures.filled }
 
 pub write_words-requires : goal.write_words-requires
-write_words-requires c = (ready_after _ _ _ _ c.args.out.now c.requires c.note_paths.ensures.paths, fits _ _ _ c.args.work.now c.args.out.now c.requires c.note_paths.ensures.paths c.measure-size.ensures.size c.if-out-bytes.false)
+write_words-requires c = (ready_after _ _ _ _ c.args.out.now c.requires c.note_paths.ensures.paths, fits _ _ _ c.args.work.now c.args.out.now c.requires c.note_paths.ensures.paths c.measure-size.ensures.size c.if-out-size.false)
 
 pub fill-requires-2 : goal.fill-requires-2
 fill-requires-2 c = omega (arith, room_after _ _ _ _ c.args.out.now c.requires c.note_paths.ensures.paths)
 
 pub returns : goal.returns
-returns c = record { outcome = written _ _ _ _ _ c.requires c.note_paths.ensures.paths c.measure-size.ensures.size c.if-out-bytes.false c.write_words.ensures.text c.fill-2.ensures.filled }
+returns c = record { outcome = written _ _ _ _ _ c.requires c.note_paths.ensures.paths c.measure-size.ensures.size c.if-out-size.false c.write_words.ensures.text c.fill-2.ensures.filled }

@@ -12,9 +12,6 @@ loop-y-init c = lines_first c.requires.0
 pub write_word-to-requires : goal.write_word-to-requires
 write_word-to-requires c = (record { pathed = c.requires.0; point = c.requires.1; letter = c.loop-y-test.true }, lines_room c.requires.0 c.loop-y.invariant c.loop-y-test.true c.requires.2)
 
-pub overflow_add-y : goal.overflow_add-y
-overflow_add-y c = omega (arith, (pathed_sizes c.requires.0).letters, c.loop-y-test.true)
-
 pub loop-y-preserved : goal.loop-y-preserved
 loop-y-preserved c = lines_turn c.requires.0 c.loop-y.invariant c.loop-y-test.true c.write_word-to.ensures.text c.write_word-to.ensures.end
 

@@ -1,11 +1,7 @@
 -- `edges::mark` meets its contract. The loop: the first j marks are left, and the tally stands at the row of mark j (`MarkLaws`).
 -- Assumes nothing.
 use Rattle.edges.proofs.MarkLaws.{Marking}
-use Prim.Native.Nat.{◌-◌}
 use Rattle.edges.proofs.mark.Given as goal
 
 abbrev pub invariant-loop-j : goal.invariant-loop-j
 invariant-loop-j l = Marking l.s.n l.s.points l.table l.marks l.initial.work l.j l.work l.row l.tally
-
-abbrev pub decreases-loop-j : goal.decreases-loop-j
-decreases-loop-j l = l.marks - l.j

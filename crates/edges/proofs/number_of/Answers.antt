@@ -23,9 +23,6 @@ find-requires c = let m = mark_near _ _ c.run_of.ensures.run c.requires.sound.3 
 pub pass_rows-before-requires : goal.pass_rows-before-requires
 pass_rows-before-requires c = let m = mark_near _ _ c.run_of.ensures.run c.requires.sound.3 in record { sound = (c.requires.sound.0, omega (arith, c.mark_row-from.ensures.row, m.1), omega (arith, c.requires.sound.3)); tally = c.find.ensures.found ∙ found_mark c.requires.sound.0 c.args.work.now c.args.marks _ c.requires.marked m.0 ∙ ap (tally_before _ _ _) (sym c.mark_row-from.ensures.row) }
 
-pub pass_cells-sum-requires : goal.pass_cells-sum-requires
-pass_cells-sum-requires c = record { sound = (c.requires.sound.0, c.requires.sound.3, omega (arith, c.requires.sound.4)); tally = c.pass_rows-before.ensures.tally }
-
 pub overflow_add-result : goal.overflow_add-result
 overflow_add-result c = omega (arith, tally_small c.requires.sound.0 c.pass_cells-sum.ensures.tally c.requires.sound.3 c.requires.sound.4)
 

@@ -7,17 +7,17 @@ use Rattle.edges.proofs.pass_cell.Goals as goal
 pub returns-then-x : goal.returns-then-x
 returns-then-x c = record { tally = pass_absent c.requires.sound.0 _ _ c.requires.sound.1 c.requires.sound.2 c.requires.tally c.cell_at-x.ensures.cell c.if-x.true }
 
-pub returns-then-met-x : goal.returns-then-met-x
-returns-then-met-x c = record { tally = pass_new c.requires.sound.0 _ _ c.requires.sound.1 c.requires.sound.2 c.requires.tally c.cell_at-x.ensures.cell c.if-x.false c.if-met-x.true }
+pub returns-then-tally-x : goal.returns-then-tally-x
+returns-then-tally-x c = record { tally = pass_new c.requires.sound.0 _ _ c.requires.sound.1 c.requires.sound.2 c.requires.tally c.cell_at-x.ensures.cell c.if-x.false c.if-tally-x.true }
 
 pub returns-then-y-ne0 : goal.returns-then-y-ne0
-returns-then-y-ne0 c = record { tally = pass_capital c.requires.sound.0 _ _ c.requires.sound.1 c.requires.sound.2 c.requires.tally c.cell_at-x.ensures.cell c.if-x.false c.if-met-x.false c.if-y-ne0.true }
+returns-then-y-ne0 c = record { tally = pass_capital c.requires.sound.0 _ _ c.requires.sound.1 c.requires.sound.2 c.requires.tally c.cell_at-x.ensures.cell c.if-x.false c.if-tally-x.false c.if-y-ne0.true }
 
 pub returns-then-place_back-first : goal.returns-then-place_back-first
-returns-then-place_back-first c = record { tally = pass_path c.requires.sound.0 _ _ c.requires.sound.1 c.requires.sound.2 c.requires.tally c.cell_at-x.ensures.cell c.if-x.false c.if-met-x.false c.place_back.ensures.back c.requires.sound.3 (omega (arith, c.if-place_back-first.true)) }
+returns-then-place_back-first c = record { tally = pass_path c.requires.sound.0 _ _ c.requires.sound.1 c.requires.sound.2 c.requires.tally c.cell_at-x.ensures.cell c.if-x.false c.if-tally-x.false c.place_back.ensures.back c.requires.sound.3 (omega (arith, c.if-place_back-first.true)) }
 
 pub overflow_add-result : goal.overflow_add-result
 overflow_add-result c = omega (arith, tally_small c.requires.sound.0 c.requires.tally c.requires.sound.1 c.requires.sound.2)
 
 pub returns : goal.returns
-returns c = record { tally = pass_outside c.requires.sound.0 _ _ c.requires.sound.1 c.requires.sound.2 c.requires.tally c.cell_at-x.ensures.cell c.if-x.false c.if-met-x.false c.place_back.ensures.back c.requires.sound.3 c.if-y-ne0.false (λ e. c.if-place_back-first.false (omega (arith, e))) }
+returns c = record { tally = pass_outside c.requires.sound.0 _ _ c.requires.sound.1 c.requires.sound.2 c.requires.tally c.cell_at-x.ensures.cell c.if-x.false c.if-tally-x.false c.place_back.ensures.back c.requires.sound.3 c.if-y-ne0.false (λ e. c.if-place_back-first.false (omega (arith, e))) }

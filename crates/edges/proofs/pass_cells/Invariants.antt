@@ -4,11 +4,7 @@ use Rattle.theory.specs.Letters.{usual}
 use Rattle.theory.specs.Tables.{cell}
 use Rattle.edges.specs.Steps.{tally_at}
 use mathlib.Core.Path.{◌≡◌}
-use Prim.Native.Nat.{◌-◌, ◌≤◌}
 use Rattle.edges.proofs.pass_cells.Given as goal
 
 abbrev pub invariant-loop-y : goal.invariant-loop-y
-invariant-loop-y l = (l.y ≤ l.upto) × (l.sum ≡ tally_at (cell l.s.n l.s.points l.table) l.s.points (usual l.s.n) l.v l.y)
-
-abbrev pub decreases-loop-y : goal.decreases-loop-y
-decreases-loop-y l = l.upto - l.y
+invariant-loop-y l = l.sum ≡ tally_at (cell l.s.n l.s.points l.table) l.s.points (usual l.s.n) l.v l.y

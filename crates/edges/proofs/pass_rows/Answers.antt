@@ -8,4 +8,4 @@ pub overflow_mul-w : goal.overflow_mul-w
 overflow_mul-w c = omega (arith, (sound_sizes c.requires.sound.0).letters)
 
 pub loop-v-preserved : goal.loop-v-preserved
-loop-v-preserved c = (omega (arith, c.loop-v-test.true), c.pass_cells-sum.ensures.tally ∙ tally_whole c.requires.sound.0 _)
+loop-v-preserved c = c.pass_cells-sum.ensures.tally ∙ tally_whole c.requires.sound.0 _

@@ -4,11 +4,7 @@ use Rattle.theory.specs.Letters.{usual}
 use Rattle.theory.specs.Tables.{cell}
 use Rattle.edges.specs.Edges.{tally_before}
 use mathlib.Core.Path.{◌≡◌}
-use Prim.Native.Nat.{◌-◌, ◌≤◌}
 use Rattle.edges.proofs.pass_rows.Given as goal
 
 abbrev pub invariant-loop-v : goal.invariant-loop-v
-invariant-loop-v l = (l.v ≤ l.to) × (l.sum ≡ tally_before (cell l.s.n l.s.points l.table) l.s.points (usual l.s.n) l.v)
-
-abbrev pub decreases-loop-v : goal.decreases-loop-v
-decreases-loop-v l = l.to - l.v
+invariant-loop-v l = l.sum ≡ tally_before (cell l.s.n l.s.points l.table) l.s.points (usual l.s.n) l.v

@@ -1,5 +1,5 @@
 use Rattle.tables.proofs.CellTurn.{product_small}
-use Rattle.edges.proofs.StepLaws.{sound_sizes, least_done, base_place}
+use Rattle.edges.proofs.StepLaws.{sound_sizes, least_turn, least_done, base_place}
 use mathlib.Core.Path.{refl}
 use native.Mathlib.Omega.{arith}
 use Rattle.edges.proofs.step_place.Goals as goal
@@ -13,8 +13,8 @@ overflow_mul-least c = omega (arith, product_small _ _ (sound_sizes c.requires.0
 pub returns-then-x-eq0 : goal.returns-then-x-eq0
 returns-then-x-eq0 c = record { step = base_place c.requires.0 refl c.if-x-eq0.true }
 
-pub overflow_add-z : goal.overflow_add-z
-overflow_add-z c = omega (arith, (sound_sizes c.requires.0).letters, c.loop-z-test.true)
+pub loop-z-preserved : goal.loop-z-preserved
+loop-z-preserved c = rw c.min-least.ensures (least_turn _ _ _ _ c.loop-z.invariant c.place_back.ensures.back)
 
 pub returns : goal.returns
 returns c = record { step = least_done c.requires.0 c.loop-z.invariant c.loop-z-test.false c.requires.1 c.if-x-eq0.false }

@@ -2,11 +2,8 @@
 -- Assumes nothing.
 use Rattle.theory.specs.Tables.{cell}
 use Rattle.edges.proofs.StepLaws.{Least}
-use Prim.Native.Nat.{◌-◌, ◌*◌}
+use Prim.Native.Nat.{◌*◌}
 use Rattle.edges.proofs.step_place.Given as goal
 
 abbrev pub invariant-loop-z : goal.invariant-loop-z
 invariant-loop-z l = Least (cell l.s.n l.s.points l.table) l.s.points (2 * l.s.n) l.x l.z l.least
-
-abbrev pub decreases-loop-z : goal.decreases-loop-z
-decreases-loop-z l = l.w - l.z

@@ -1,7 +1,10 @@
 -- `expressions::express` meets its contract. The first of 1 to 8, or what is said where none applies (`AnswerLaws`).
 -- Assumes nothing.
+use Rattle.std.proofs.lemmas.Result.{err_from_is_err_and}
 use Rattle.expressions.proofs.AnswerLaws.{query_refused}
 use Rattle.expressions.proofs.express.Goals as goal
 
-pub returns-in-Cause : goal.returns-in-Cause
-returns-in-Cause c = record { outcome = query_refused _ _ _ _ _ _ c.query_cause.ensures.found c.in-Cause.is }
+pub returns-in_err-check_query : goal.returns-in_err-check_query
+returns-in_err-check_query c =
+    let p = err_from_is_err_and c.from_residual.result c.from_residual.ensures.1 in
+    record { outcome = rw (p.1, p.2) (query_refused _ _ _ _ _ _ c.in_err-check_query.ensures.checked) }

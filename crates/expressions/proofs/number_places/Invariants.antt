@@ -1,12 +1,9 @@
--- `expressions::number_places` meets its contract. The loop: the first i places have their numbers (`WalkTurn`).
+-- `expressions::number_places` meets its contract. The loop: the first places have their numbers (`WalkTurn`).
 -- Assumes nothing.
-use Prim.Native.Nat.{◌-◌}
+use mathlib.Core.Path.{◌≡◌}
 use Rattle.expressions.specs.Places.{numbered}
-use Rattle.expressions.proofs.WalkTurn.{Numbering}
+use Rattle.expressions.proofs.WalkTurn.{changed}
 use Rattle.expressions.proofs.number_places.Given as goal
 
-abbrev pub invariant-loop-i : goal.invariant-loop-i
-invariant-loop-i l = Numbering (numbered l.s.n l.s.points l.table) l.initial.out l.count l.i l.out
-
-abbrev pub decreases-loop-i : goal.decreases-loop-i
-decreases-loop-i l = l.count - l.i
+abbrev pub invariant-loop-z : goal.invariant-loop-z
+invariant-loop-z l = l.z-items ≡ changed (numbered l.s.n l.s.points l.table) l.z-index l.fn.places

@@ -7,23 +7,8 @@ use mir.ValLaws.{to_z-of_z}
 use Rattle.expressions.proofs.PlaceLaws.{place_small, inverse_in, place_forth, place_back_lem}
 use Rattle.expressions.proofs.place_of.Goals as goal
 
-pub overflow_mul-v : goal.overflow_mul-v
-overflow_mul-v c = omega (arith, place_small _ _ _ _ c.requires.0 c.requires.1 c.requires.2 c.requires.4)
-
-pub overflow_add-v : goal.overflow_add-v
-overflow_add-v c = omega (arith, place_small _ _ _ _ c.requires.0 c.requires.1 c.requires.2 c.requires.4)
-
-pub overflow_add-v-then-y-eq0 : goal.overflow_add-v-then-y-eq0
-overflow_add-v-then-y-eq0 c = omega (arith, place_small _ _ _ _ c.requires.0 c.requires.1 c.requires.2 c.requires.4)
-
-pub signed-requires : goal.signed-requires
-signed-requires c = place_small _ _ _ _ c.requires.0 c.requires.1 c.requires.2 c.requires.4
-
 pub returns-then-y-eq0 : goal.returns-then-y-eq0
 returns-then-y-eq0 c = record { place = to_z-of_z w32 _ (record { sfits = c.signed.type_inv }) ∙ c.signed.ensures.signed ∙ place_forth _ _ _ _ c.if-y-eq0.true }
-
-pub overflow_mul-x : goal.overflow_mul-x
-overflow_mul-x c = omega (arith, place_small _ _ _ _ c.requires.0 c.requires.1 c.requires.3 c.requires.4)
 
 pub overflow_add-x : goal.overflow_add-x
 overflow_add-x c = omega (arith, c.inverse.ensures.inverse, place_small _ _ _ _ c.requires.0 c.requires.1 c.requires.3 (inverse_in _ _ c.requires.4))

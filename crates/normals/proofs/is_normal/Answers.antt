@@ -11,10 +11,7 @@ pub overflow_mul-w : goal.overflow_mul-w
 overflow_mul-w c = omega (arith, (ready_sizes c.requires.0).letters)
 
 pub passes-requires : goal.passes-requires
-passes-requires c = (ready_for_lem c.requires.0 (all_cleared_size _ _ c.requires.1 (c.loop-letter.invariant.1 ∙ c.fill.ensures.filled)), c.loop-letter-test.true, images_clear _ _ c.requires.1 (c.loop-letter.invariant.1 ∙ c.fill.ensures.filled))
+passes-requires c = (ready_for_lem c.requires.0 (all_cleared_size _ _ c.requires.1 (c.loop-letter.invariant.1 ∙ c.fill.ensures.filled)), omega arith, images_clear _ _ c.requires.1 (c.loop-letter.invariant.1 ∙ c.fill.ensures.filled))
 
 pub returns-then-not-passes : goal.returns-then-not-passes
-returns-then-not-passes c = record { normal = asked_no _ _ _ c.loop-letter-test.true c.passes.ensures.passes c.if-not-passes.true; cleared = ((c.passes.ensures.cells ∙ (c.loop-letter.invariant.1 ∙ c.fill.ensures.filled))) }
-
-pub overflow_add-letter : goal.overflow_add-letter
-overflow_add-letter c = omega (arith, (ready_sizes c.requires.0).letters, c.loop-letter-test.true)
+returns-then-not-passes c = record { normal = asked_no _ _ _ (omega arith) c.passes.ensures.passes c.if-not-passes.true; cleared = ((c.passes.ensures.cells ∙ (c.loop-letter.invariant.1 ∙ c.fill.ensures.filled))) }

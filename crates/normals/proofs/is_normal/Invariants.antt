@@ -1,12 +1,8 @@
 -- `normals::is_normal` meets its contract. The loop: the letters before this one pass at the base (`BaseTurn`).
 -- Assumes nothing.
 use Rattle.normals.proofs.BaseTurn.{Asked}
-use Prim.Native.Nat.{◌-◌}
 use mathlib.Core.Path.{◌≡◌}
 use Rattle.normals.proofs.is_normal.Given as goal
 
 abbrev pub invariant-loop-letter : goal.invariant-loop-letter
 invariant-loop-letter l = Asked l.s.n l.s.points l.table l.letter × (l.work ≡ l.initial.work)
-
-abbrev pub decreases-loop-letter : goal.decreases-loop-letter
-decreases-loop-letter l = l.w - l.letter

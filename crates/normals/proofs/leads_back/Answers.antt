@@ -10,20 +10,17 @@ overflow_mul-w c = omega (arith, (ready_sizes c.requires.0).letters)
 pub loop-v-init : goal.loop-v-init
 loop-v-init c = (follow_first c.requires.0 c.requires.1 c.args.work.now (omega (arith, c.requires.0.room_for)) refl, behind_same)
 
-pub carry-next-requires : goal.carry-next-requires
-carry-next-requires c = follow_carrying c.requires.0 c.requires.1 c.loop-y.invariant.0 c.loop-y.invariant.1 c.loop-y-test.true
+pub carry-requires : goal.carry-requires
+carry-requires c = follow_carrying c.requires.0 c.requires.1 c.loop-y.invariant.0 c.loop-v-test.true c.loop-y-test.true
 
-pub returns-then-next : goal.returns-then-next
-returns-then-next c = record { back = sym (follow_stuck c.requires.0 c.requires.1 c.loop-y.invariant.0 c.loop-y.invariant.1 c.loop-y-test.true c.carry-next.ensures.met c.carry-next.ensures.cells c.if-next.true); cleared = behind_cleared _ _ _ (behind_then (behind_set _ _ _ _ (omega (arith, c.requires.1)) refl) (behind_then c.loop-v.invariant.1 (behind_then c.loop-y.invariant.2 (behind_turn c.requires.0 c.requires.1 c.loop-y.invariant.0 c.loop-y.invariant.1 c.loop-y-test.true c.carry-next.ensures.met c.carry-next.ensures.cells)))) c.fill.ensures.filled }
-
-pub overflow_add-y : goal.overflow_add-y
-overflow_add-y c = omega (arith, (ready_sizes c.requires.0).letters, c.loop-y-test.true)
+pub returns-in_default : goal.returns-in_default
+returns-in_default c = record { back = sym (follow_stuck c.requires.0 c.requires.1 c.loop-y.invariant.0 c.loop-v-test.true c.loop-y-test.true c.carry.ensures.met c.carry.ensures.cells c.in_default.is); cleared = behind_cleared _ _ _ (behind_then (behind_set _ _ _ _ (omega (arith, c.requires.1)) refl) (behind_then c.loop-v.invariant.1 (behind_then c.loop-y.invariant.1 (behind_turn c.requires.0 c.requires.1 c.loop-y.invariant.0 c.loop-v-test.true c.loop-y-test.true c.carry.ensures.met c.carry.ensures.cells)))) c.fill.ensures.filled }
 
 pub loop-y-preserved : goal.loop-y-preserved
-loop-y-preserved c = (follow_turn c.requires.0 c.requires.1 c.loop-y.invariant.0 c.loop-y.invariant.1 c.loop-y-test.true c.carry-next.ensures.met c.carry-next.ensures.cells c.if-next.false, c.loop-y.invariant.1, behind_then c.loop-y.invariant.2 (behind_turn c.requires.0 c.requires.1 c.loop-y.invariant.0 c.loop-y.invariant.1 c.loop-y-test.true c.carry-next.ensures.met c.carry-next.ensures.cells))
+loop-y-preserved c = (follow_turn c.requires.0 c.requires.1 c.loop-y.invariant.0 c.loop-v-test.true c.loop-y-test.true c.carry.ensures.met c.carry.ensures.cells c.in-Some.is, behind_then c.loop-y.invariant.1 (behind_turn c.requires.0 c.requires.1 c.loop-y.invariant.0 c.loop-v-test.true c.loop-y-test.true c.carry.ensures.met c.carry.ensures.cells))
 
 pub loop-v-preserved : goal.loop-v-preserved
-loop-v-preserved c = (follow_row c.requires.0 c.requires.1 c.loop-y.invariant.0 c.loop-y.invariant.1 c.loop-y-test.false, behind_then c.loop-v.invariant.1 c.loop-y.invariant.2)
+loop-v-preserved c = (follow_row c.requires.0 c.requires.1 c.loop-y.invariant.0 c.loop-v-test.true c.loop-y-test.false, behind_then c.loop-v.invariant.1 c.loop-y.invariant.1)
 
 pub returns : goal.returns
 returns c = record { back = sym (follow_done c.requires.0 c.requires.1 c.loop-v.invariant.0 c.loop-v-test.false); cleared = behind_cleared _ _ _ (behind_then (behind_set _ _ _ _ (omega (arith, c.requires.1)) refl) c.loop-v.invariant.1) c.fill-2.ensures.filled }

@@ -1,17 +1,10 @@
 -- `normals::leads_back` meets its contract. The loops: the cells before letter y of row v are carried over (`MapTurn`).
 -- Assumes nothing.
 use Rattle.normals.proofs.MapTurn.{Follow, Behind}
-use Prim.Native.Nat.{◌-◌, ◌<◌}
 use Rattle.normals.proofs.leads_back.Given as goal
 
 abbrev pub invariant-loop-y : goal.invariant-loop-y
-invariant-loop-y l = Follow l.s.n l.s.points l.table l.p l.v l.y l.met l.work × (l.v < l.s.points) × Behind l.s.points l.initial.work l.work
-
-abbrev pub decreases-loop-y : goal.decreases-loop-y
-decreases-loop-y l = l.w - l.y
+invariant-loop-y l = Follow l.s.n l.s.points l.table l.p l.v l.y l.met l.work × Behind l.s.points l.initial.work l.work
 
 abbrev pub invariant-loop-v : goal.invariant-loop-v
 invariant-loop-v l = Follow l.s.n l.s.points l.table l.p l.v 0 l.met l.work × Behind l.s.points l.initial.work l.work
-
-abbrev pub decreases-loop-v : goal.decreases-loop-v
-decreases-loop-v l = l.points - l.v

@@ -1,10 +1,14 @@
--- `paths::is_new` meets its contract. Both arms are the cases of the definition (`NoteLaws`).
+-- `paths::is_new` meets its contract. Both arms are the cases of the definition.
 -- Assumes nothing.
-use Rattle.paths.proofs.NoteLaws.{new_none, new_some}
+use Rattle.paths.specs.Notes.{is_new}
+use Rattle.std.proofs.Common.{arith}
+use Rattle.std.proofs.lemmas.Grind.{common_steps}
 use Rattle.paths.proofs.is_new.Goals as goal
 
-pub returns-then-x-eq-ABSENT : goal.returns-then-x-eq-ABSENT
-returns-then-x-eq-ABSENT c = record { new = new_none _ _ c.if-x-eq-ABSENT.true }
+pub returns-then-x-ne-ABSENT : goal.returns-then-x-ne-ABSENT
+unfolding is_new
+returns-then-x-ne-ABSENT c = grind (arith, common_steps)
 
-pub returns : goal.returns
-returns c = record { new = new_some _ _ c.if-x-eq-ABSENT.false }
+pub returns-else-x-ne-ABSENT : goal.returns-else-x-ne-ABSENT
+unfolding is_new
+returns-else-x-ne-ABSENT c = grind (arith, common_steps)

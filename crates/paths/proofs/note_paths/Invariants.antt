@@ -1,17 +1,10 @@
 -- `paths::note_paths` meets its contract. The loops: the cells before letter y of row v are passed (`PathTurn`).
 -- Assumes nothing.
 use Rattle.paths.proofs.PathTurn.{Kept, Head}
-use Prim.Native.Nat.{◌-◌, ◌<◌}
 use Rattle.paths.proofs.note_paths.Given as goal
 
 abbrev pub invariant-loop-y : goal.invariant-loop-y
-invariant-loop-y l = Head l.s.n l.s.points l.table l.v l.y l.met l.work × (l.v < l.s.points) × Kept l.s.points l.initial.work l.work
-
-abbrev pub decreases-loop-y : goal.decreases-loop-y
-decreases-loop-y l = l.w - l.y
+invariant-loop-y l = Head l.s.n l.s.points l.table l.v l.y l.met l.work × Kept l.s.points l.initial.work l.work
 
 abbrev pub invariant-loop-v : goal.invariant-loop-v
 invariant-loop-v l = Head l.s.n l.s.points l.table l.v 0 l.met l.work × Kept l.s.points l.initial.work l.work
-
-abbrev pub decreases-loop-v : goal.decreases-loop-v
-decreases-loop-v l = l.points - l.v
