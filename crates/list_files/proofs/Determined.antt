@@ -4,9 +4,11 @@
 use mathlib.Core.Path.{◌≡◌, sym, ◌∙◌}
 use mathlib.Core.List.{List}
 use Prim.Native.Nat.{ℕ}
-use Rattle.list_files.specs.declared.ListRead.{ListRead}
+use Rattle.std.specs.declared.result.Result.{Result}
+use Rattle.refusals.specs.declared.Refusal.{Refusal}
+use Rattle.lists.specs.declared.TextSize.{TextSize}
 use Rattle.list_files.specs.ListFiles.{ListOutcome}
 
-pub read_list_determined : (n : ℕ) (file : List ℕ) (p : ℕ) (text : List ℕ) (r s : ListRead) (after cells : List ℕ)
+pub read_list_determined : (n : ℕ) (file : List ℕ) (p : ℕ) (text : List ℕ) (r s : Result TextSize Refusal) (after cells : List ℕ)
     → ListOutcome n file p text r after → ListOutcome n file p text s cells → (r ≡ s) × (after ≡ cells)
 read_list_determined n file p text r s after cells h k = (h.answer ∙ sym k.answer, h.cells ∙ sym k.cells)

@@ -6,12 +6,14 @@
 -- Assumes nothing.
 use Rattle.std.specs.Prelude.{◌≡◌, cond, List, [], ◌∷◌, ◌++◌, ℕ, zero, suc, ◌*◌, ltb, length, drop}
 use Rattle.std.proofs.Math.Option.{Option, none, some}
+use Rattle.std.specs.declared.result.Result.{Result}
+use Rattle.std.specs.declared.result.Result.TheVariants.{Ok, Err}
 use Rattle.theory.specs.Refusals.{Refusal as FirstCause, text_limit}
 use Rattle.theory.specs.Texts.{list_text}
+use Rattle.refusals.specs.declared.Refusal.{Refusal}
 use Rattle.refusals.specs.Given.{given}
+use Rattle.lists.specs.declared.TextSize.{TextSize}
 use Rattle.runs.specs.Runs.{Run, broken, whole, number_at, behind, numbers_at}
-use Rattle.list_files.specs.declared.ListRead.{ListRead}
-use Rattle.list_files.specs.declared.ListRead.TheVariants.{Refused, Read}
 
 -- words: the refusal that they draw, or the words and the place behind them
 pub data Words : Type 0 where
@@ -57,14 +59,18 @@ count_in n space file p (some k) = words_in space file (words_at n file (behind 
 unfoldable pub list_in : ℕ → ℕ → List ℕ → ℕ → ListIn
 list_in n space file p = count_in n space file p (number_at file p)
 
-abbrev pub read_for : ListIn → ListRead
-read_for (refused r) = Refused (given r)
-read_for (listed ws) = Read (length ws) (length (list_text ws))
+-- what a list of words is as a text
+abbrev pub size_of : List (List ℕ) → TextSize
+size_of ws = record { words = length ws; bytes = length (list_text ws) }
+
+abbrev pub read_for : ListIn → Result TextSize Refusal
+read_for (refused r) = Err (given r)
+read_for (listed ws) = Ok (size_of ws)
 
 abbrev pub text_for : List ℕ → ListIn → List ℕ
 text_for text (refused r) = text
 text_for text (listed ws) = list_text ws ++ drop (length (list_text ws)) text
 
-pub record ListOutcome (n : ℕ) (file : List ℕ) (p : ℕ) (text : List ℕ) (r : ListRead) (after : List ℕ) : Type 0 where
+pub record ListOutcome (n : ℕ) (file : List ℕ) (p : ℕ) (text : List ℕ) (r : Result TextSize Refusal) (after : List ℕ) : Type 0 where
   pub answer : r ≡ read_for (list_in n (length text) file p)
   pub cells : after ≡ text_for text (list_in n (length text) file p)

@@ -5,18 +5,20 @@
 --   PutAt           <-> so many bytes stand in the text from a place on, the others are as they were; the places behind in file and text
 -- Assumes nothing.
 use Rattle.std.specs.Prelude.{◌≡◌, List, [], ◌∷◌, ◌++◌, map, ℕ, ◌+◌, length}
+use Rattle.std.specs.declared.result.Result.{Result}
+use Rattle.std.specs.declared.result.Result.TheVariants.{Ok, Err}
 use Rattle.theory.specs.Letters.{byte_of, line_end}
 use Rattle.theory.specs.Texts.{list_text}
 use Rattle.numbers.specs.Splices.{spliced}
+use Rattle.refusals.specs.declared.Refusal.{Refusal}
 use Rattle.refusals.specs.Given.{given}
 use Rattle.list_files.specs.ListFiles.{Words, stopped, read}
 use Rattle.list_files.specs.declared.Passed.{Passed}
-use Rattle.list_files.specs.declared.Passed.TheVariants.{Refused, Behind}
 use Rattle.list_files.specs.declared.Places.{Places}
 
-abbrev pub passed_as : Words → Passed
-passed_as (stopped r) = Refused (given r)
-passed_as (read ws q) = Behind q (length (list_text ws))
+abbrev pub passed_as : Words → Result Passed Refusal
+passed_as (stopped r) = Err (given r)
+passed_as (read ws q) = Ok (record { place = q; bytes = length (list_text ws) })
 
 abbrev pub AllRead : Words → Type 0
 AllRead (stopped r) = ⊥

@@ -1,31 +1,51 @@
 -- What `load` refuses, and why (`specs/Causes`).
---   load_refusal_first : the answer is number k at place p exactly if that is the first cause in the files' order
+--   load_refusal_first : a cause at place p is refused exactly if its number is the first there in the files' order
 --   load_refusal_none  : the answer is no refusal exactly if no cause applies
 -- Assumes nothing.
 use mathlib.Core.Path.{◌≡◌, refl, sym, ◌∙◌, ap, subst}
 use mathlib.Core.Logic.{◌⊎◌, inl, inr, ⊎_elim, ◌↔◌}
 use mathlib.Core.Bool.{Bool, true, false, cond, ◌||◌, true≢false}
-use mathlib.Core.Option.{Option, none, some, none-ne-some}
+use mathlib.Core.Option.{Option, none, some, some-injective, none-ne-some}
 use mathlib.Core.List.{List, map}
 use Prim.Native.Nat.{ℕ, ◌+◌, ◌*◌}
 use native.Mathlib.Omega.{arith}
 use lib.Dec.{eqb, ltb}
 use lib.ListN.{length}
 use borrow.Author.Tests.{eqb-true, eqb-false, ltb-true, ltb-false}
+use Rattle.std.specs.declared.result.Result.{Result}
+use Rattle.std.specs.declared.result.Result.TheVariants.{Ok, Err}
 use Rattle.theory.specs.Files.{number_limit}
 use Rattle.theory.specs.Refusals.{Refusal as FirstCause, is_alphabet, text_limit}
 use Rattle.theory.specs.TableRefusals.{is_lent, cell_refusal}
 use Rattle.theory.specs.Texts.{list_text}
 use Rattle.theory.proofs.TableRefusalLaws.{lent_in}
 use Rattle.refusals.specs.declared.Refusal.{Refusal}
-use Rattle.refusals.specs.Given.{given, given_as}
+use Rattle.refusals.specs.declared.Cause.{Cause}
+use Rattle.refusals.specs.Given.{number_of, cause_of, refusal_at, given}
+use Rattle.refusals.proofs.UnlessLaws.{cause_numbered}
 use Rattle.runs.specs.Runs.{Run, broken, whole, number_at, behind, numbers_at}
 use Rattle.table_files.specs.TableFiles.{TableIn, refused, faulty, sound, number_cell, by_fault, cells_in, points_in, table_in}
 use Rattle.list_files.specs.ListFiles.{Words, stopped, read, words_at, ListIn, refused as unlisted, listed, words_in, count_in, list_in}
 use Rattle.loads.specs.declared.Loaded.{Loaded}
-use Rattle.loads.specs.declared.Found.TheVariants.{Refused, Table, List as ListMet}
 use Rattle.loads.specs.Loads.{FileIn, unread, table_met, list_met, by_kind, after_n, after_kind, file_in, loaded_for, LoadOutcome}
-use Rattle.loads.specs.Causes.{FileCause, FirstInFile}
+use Rattle.loads.specs.Causes.{
+  FileCause,
+  kind_missing,
+  kind_other,
+  n_missing,
+  n_beyond,
+  count_missing,
+  points_wrong,
+  cell_missing,
+  number_missing,
+  letter_beyond,
+  cells_end,
+  words_end,
+  cell_faulty,
+  text_long,
+  text_narrow,
+  FirstInFile,
+}
 use Rattle.loads.proofs.Events.{RunVerdict, run_verdict, WordsVerdict, words_verdict}
 use Rattle.loads.proofs.FirstCauses.{clear_all, Least, least_first, least_one}
 use Rattle.loads.proofs.Steps.{third, Three, Cleared, kind_none, kind_bad, kind_good, n_none, n_bad, n_good, count_none, points_bad, count_good}
@@ -198,33 +218,48 @@ module _ (file : List ℕ) (cells space : ℕ) where
 
 -- ── The answer ──
 
-found_refused : (m : FileIn) (q : Refusal) → (loaded_for m).found ≡ Refused q → refusal_of m ≡ some (record { number = q.number; place = q.place })
-found_refused m q e = go m e
+-- each cause has its number in document 01's table
+numbered : {file : List ℕ} {cells space s k p : ℕ} → FileCause file cells space s k p → number_of (cause_of k) ≡ k
+numbered (kind_missing p m) = refl
+numbered (kind_other kind p t c) = refl
+numbered (n_missing kind p m) = refl
+numbered (n_beyond kind n p t c) = refl
+numbered (count_missing kind n p m) = refl
+numbered (points_wrong n N p t c) = refl
+numbered (cell_missing n N p xs h m) = refl
+numbered (number_missing n k p xs u m) = refl
+numbered (letter_beyond n k p y xs u t h e) = refl
+numbered (cells_end n N p xs h t c) = refl
+numbered (words_end n p ws t c) = refl
+numbered (cell_faulty n N p xs h t c) = refl
+numbered (text_long n p ws t c) = refl
+numbered (text_narrow n p ws t c) = refl
+
+-- the refusal that is answered is the one that is met
+refused_met : (m : FileIn) {q : Refusal} → loaded_for m ≡ Err q → (c : FirstCause) × (refusal_of m ≡ some c) × (q ≡ given c)
+refused_met m {q} e = go m e
   where
-    one : {r : FirstCause} → Refused (given r) ≡ Refused q → ◌≡◌ {A = Option FirstCause} (some r) (some (record { number = q.number; place = q.place }))
-    one {r} e = let f : given r ≡ q = cc in ap (λ q. some (record { number = q.number; place = q.place })) f
+    one : {a : Refusal} → ◌≡◌ {A = Result Loaded Refusal} (Err a) (Err q) → q ≡ a
+    one e = cc
 
-    not_table : Table ≡ Refused q → ⊥
-    not_table e = true≢false cc
+    apart : {a : Loaded} → Ok a ≡ Err q → ⊥
+    apart e = true≢false cc
 
-    not_list : (a b : ℕ) → ListMet a b ≡ Refused q → ⊥
-    not_list a b e = true≢false cc
+    go : (m : FileIn) → loaded_for m ≡ Err q → (c : FirstCause) × (refusal_of m ≡ some c) × (q ≡ given c)
+    go (unread c) e = (c, refl, one e)
+    go (table_met n (refused c)) e = (c, refl, one e)
+    go (table_met n (faulty k c)) e = (c, refl, one e)
+    go (table_met n (sound N t)) e = absurd (apart e)
+    go (list_met n (unlisted c)) e = (c, refl, one e)
+    go (list_met n (listed ws)) e = absurd (apart e)
 
-    go : (m : FileIn) → (loaded_for m).found ≡ Refused q → refusal_of m ≡ some (record { number = q.number; place = q.place })
-    go (unread r) e = one e
-    go (table_met n (refused r)) e = one e
-    go (table_met n (faulty k r)) e = one e
-    go (table_met n (sound N t)) e = absurd (not_table e)
-    go (list_met n (unlisted r)) e = one e
-    go (list_met n (listed ws)) e = absurd (not_list (length ws) (length (list_text ws)) e)
-
-refused_found : (m : FileIn) (r : FirstCause) → refusal_of m ≡ some r → (loaded_for m).found ≡ Refused (given r)
-refused_found m r e = go m e
+met_refused : (m : FileIn) (r : FirstCause) → refusal_of m ≡ some r → loaded_for m ≡ Err (given r)
+met_refused m r e = go m e
   where
-    one : {c : FirstCause} → ◌≡◌ {A = Option FirstCause} (some c) (some r) → Refused (given c) ≡ Refused (given r)
-    one {c} e = let f : c ≡ r = cc in ap (λ c. Refused (given c)) f
+    one : {c : FirstCause} → some c ≡ some r → ◌≡◌ {A = Result Loaded Refusal} (Err (given c)) (Err (given r))
+    one e = ap (λ c. Err (given c)) (some-injective _ _ e)
 
-    go : (m : FileIn) → refusal_of m ≡ some r → (loaded_for m).found ≡ Refused (given r)
+    go : (m : FileIn) → refusal_of m ≡ some r → loaded_for m ≡ Err (given r)
     go (unread c) e = one e
     go (table_met n (refused c)) e = one e
     go (table_met n (faulty k c)) e = one e
@@ -232,22 +267,36 @@ refused_found m r e = go m e
     go (list_met n (unlisted c)) e = one e
     go (list_met n (listed ws)) e = absurd (none-ne-some _ e)
 
-module _ (file table text : List ℕ) {r : Loaded} {table' text' : List ℕ} (h : LoadOutcome file table text r table' text') where
-  pub load_refusal_first : (k p : ℕ) → (r.found ≡ Refused (given_as k p)) ↔ FirstInFile file (length table) (length text) k p
-  load_refusal_first k p = (
-    λ e. met_first file (length table) (length text) k p
-        (found_refused (file_in (length table) (length text) file) (given_as k p) (sym (ap (λ r. r.found) h.answer) ∙ e)),
-    λ f. ap (λ r. r.found) h.answer
-        ∙ refused_found (file_in (length table) (length text) file) (record { number = k; place = p }) (first_met_lem file (length table) (length text) k p f),
+module _ (file table text : List ℕ) {r : Result Loaded Refusal} {table' text' : List ℕ} (h : LoadOutcome file table text r table' text') where
+  abbrev met : FileIn
+  met = file_in (length table) (length text) file
+
+  -- a refusal that is answered is of the first cause
+  refused_first : {q : Refusal} → r ≡ Err q → FirstInFile file (length table) (length text) (number_of q.cause) q.place
+  refused_first {q} e =
+      let c = refused_met met (sym h.answer ∙ e) in
+      let f = met_first file (length table) (length text) c.0.number c.0.place c.1 in
+      let n : c.0.number ≡ number_of q.cause = sym (numbered f.applies) ∙ ap (λ (q : Refusal). number_of q.cause) (sym c.2) in
+      let p : c.0.place ≡ q.place = ap (λ (q : Refusal). q.place) (sym c.2) in
+      subst (λ k. FirstInFile file (length table) (length text) k q.place) n
+      (subst (λ p. FirstInFile file (length table) (length text) c.0.number p) p f)
+
+  pub load_refusal_first : (cause : Cause) (p : ℕ) → (r ≡ Err (refusal_at cause p)) ↔ FirstInFile file (length table) (length text) (number_of cause) p
+  load_refusal_first cause p = (
+    λ e. refused_first e,
+    λ f. h.answer
+        ∙ met_refused met (record { number = number_of cause; place = p })
+        (first_met_lem file (length table) (length text) (number_of cause) p f)
+        ∙ ap (λ c. Err (refusal_at c p)) (cause_numbered cause),
   )
 
-  pub load_refusal_none : ((q : Refusal) → r.found ≡ Refused q → ⊥) ↔ ((s k p : ℕ) → FileCause file (length table) (length text) s k p → ⊥)
+  pub load_refusal_none : ((q : Refusal) → r ≡ Err q → ⊥) ↔ ((s k p : ℕ) → FileCause file (length table) (length text) s k p → ⊥)
   load_refusal_none = (
-    λ g. go g (refusal_of (file_in (length table) (length text) file)) refl (judged file (length table) (length text)),
-    λ g q e. let f = (load_refusal_first q.number q.place).0 e in g f.step q.number q.place f.applies,
+    λ g. go g (refusal_of met) refl (judged file (length table) (length text)),
+    λ g q e. let f = refused_first e in g f.step (number_of q.cause) q.place f.applies,
   )
     where
-      go : ((q : Refusal) → r.found ≡ Refused q → ⊥) → (o : Option FirstCause) → refusal_of (file_in (length table) (length text) file) ≡ o
+      go : ((q : Refusal) → r ≡ Err q → ⊥) → (o : Option FirstCause) → refusal_of met ≡ o
           → Judged file (length table) (length text) o → (s k p : ℕ) → FileCause file (length table) (length text) s k p → ⊥
       go g none e j = j
-      go g (some c) e j = absurd (g (given c) (ap (λ r. r.found) h.answer ∙ refused_found (file_in (length table) (length text) file) c e))
+      go g (some c) e j = absurd (g (given c) (h.answer ∙ met_refused met c e))

@@ -3,15 +3,17 @@
 --   table_left : a table that is loaded is not left as it was
 --   text_left  : nor is the text of a list
 -- Assumes nothing.
-use mathlib.Core.Path.{◌≡◌, sym, ◌∙◌, ap}
+use mathlib.Core.Path.{◌≡◌, ◌∙◌, ap}
+use mathlib.Core.Bool.{true≢false}
 use mathlib.Core.List.{List, []}
 use Prim.Native.Nat.{ℕ}
 use native.Mathlib.Omega.{arith}
 use lib.ListN.{get_or, replicate}
 use Rattle.theory.specs.Texts.{bytes_from, list_text}
+use Rattle.std.specs.declared.result.Result.{Result}
+use Rattle.std.specs.declared.result.Result.TheVariants.{Ok, Err}
 use Rattle.refusals.specs.declared.Refusal.{Refusal}
 use Rattle.loads.specs.declared.Loaded.{Loaded}
-use Rattle.loads.specs.declared.Found.TheVariants.{Refused, Table}
 use Rattle.loads.specs.Loads.{loaded_for, table_after, text_after, LoadOutcome}
 use Rattle.loads.proofs.Loads.{table_file_here, list_file_here, table_here_lem, list_here, text_here}
 
@@ -22,17 +24,18 @@ cells = replicate 8 777
 abbrev room : List ℕ
 room = replicate 5 0
 
-pub refuse_all : (r : Loaded) (q : Refusal) (table' text' : List ℕ) → r.found ≡ Refused q → LoadOutcome table_file_here cells [] r table' text' → ⊥
-refuse_all r q table' text' e h =
-    let f : Refused q ≡ Table = sym e ∙ ap (λ r. r.found) (h.answer ∙ ap loaded_for table_here_lem) in
-    let z : ◌≡◌ {A = ℕ} 0 1 = cc in omega arith
+pub refuse_all : (r : Refusal) (table' text' : List ℕ) → LoadOutcome table_file_here cells [] (Err r) table' text' → ⊥
+refuse_all r table' text' h = apart (h.answer ∙ ap loaded_for table_here_lem)
+  where
+    apart : {a : Loaded} → Err r ≡ Ok a → ⊥
+    apart e = true≢false cc
 
-pub table_left : (r : Loaded) (text' : List ℕ) → LoadOutcome table_file_here cells [] r cells text' → ⊥
+pub table_left : (r : Result Loaded Refusal) (text' : List ℕ) → LoadOutcome table_file_here cells [] r cells text' → ⊥
 table_left r text' h =
     let e = h.cells ∙ ap (table_after cells) table_here_lem in
     let z : ◌≡◌ {A = ℕ} 777 1 = ap (λ l. get_or l 0 0) e in omega arith
 
-pub text_left : (r : Loaded) (table' : List ℕ) → LoadOutcome list_file_here [] room r table' room → ⊥
+pub text_left : (r : Result Loaded Refusal) (table' : List ℕ) → LoadOutcome list_file_here [] room r table' room → ⊥
 unfolding bytes_from list_text
 text_left r table' h =
     let e = h.bytes ∙ ap (text_after room) list_here in

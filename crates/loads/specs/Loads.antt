@@ -1,20 +1,21 @@
 -- What loading says and leaves (document 01, 'The saved file' and the files' own order), cited by `load`.
 --   FileIn             == what a file holds: a refusal by its kind or n, a table, or a list (table_files, list_files)
 --   file_in cells space file == that, for a lent table of so many cells and a lent text of so many bytes
---   loaded_for          == the answer, and beside it n and the points: both 0 of a refusal, the points 0 of a list
+--   loaded_for          == the answer: a refusal, a table with n and its points, or a list with n and the size of its text
 --   LoadOutcome       <-> the answer and both buffers; the other kind's buffer is as it was
 -- Assumes nothing.
 use Rattle.std.specs.Prelude.{◌≡◌, cond, ◌||◌, List, ℕ, eqb, length}
+use Rattle.std.specs.declared.result.Result.{Result}
+use Rattle.std.specs.declared.result.Result.TheVariants.{Ok, Err}
 use Rattle.std.proofs.Math.Option.{Option, none, some}
 use Rattle.theory.specs.Refusals.{Refusal as FirstCause, is_alphabet}
-use Rattle.theory.specs.Texts.{list_text}
+use Rattle.refusals.specs.declared.Refusal.{Refusal}
 use Rattle.refusals.specs.Given.{given}
 use Rattle.runs.specs.Runs.{number_at, behind}
 use Rattle.table_files.specs.TableFiles.{TableIn, refused, faulty, sound, table_in, table_for}
-use Rattle.list_files.specs.ListFiles.{ListIn, refused as unlisted, listed, list_in, text_for}
+use Rattle.list_files.specs.ListFiles.{ListIn, refused as unlisted, listed, list_in, size_of, text_for}
 use Rattle.loads.specs.declared.Loaded.{Loaded}
-use Rattle.loads.specs.declared.Found.{Found}
-use Rattle.loads.specs.declared.Found.TheVariants.{Refused, Table, List as ListMet}
+use Rattle.loads.specs.declared.Loaded.TheVariants.{Table, List as ListLoaded}
 
 pub data FileIn : Type 0 where
   unread : FirstCause → FileIn
@@ -41,17 +42,13 @@ after_kind cells space file (some kind) =
 unfoldable pub file_in : ℕ → ℕ → List ℕ → FileIn
 file_in cells space file = after_kind cells space file (number_at file 0)
 
--- an answer, with n and the points
-abbrev pub answer_with : ℕ → ℕ → Found → Loaded
-answer_with n N a = record { subgroup = record { n = n; points = N }; found = a }
-
-abbrev pub loaded_for : FileIn → Loaded
-loaded_for (unread r) = answer_with 0 0 (Refused (given r))
-loaded_for (table_met n (refused r)) = answer_with 0 0 (Refused (given r))
-loaded_for (table_met n (faulty count r)) = answer_with 0 0 (Refused (given r))
-loaded_for (table_met n (sound N t)) = answer_with n N Table
-loaded_for (list_met n (unlisted r)) = answer_with 0 0 (Refused (given r))
-loaded_for (list_met n (listed ws)) = answer_with n 0 (ListMet (length ws) (length (list_text ws)))
+abbrev pub loaded_for : FileIn → Result Loaded Refusal
+loaded_for (unread r) = Err (given r)
+loaded_for (table_met n (refused r)) = Err (given r)
+loaded_for (table_met n (faulty count r)) = Err (given r)
+loaded_for (table_met n (sound N t)) = Ok (Table n N)
+loaded_for (list_met n (unlisted r)) = Err (given r)
+loaded_for (list_met n (listed ws)) = Ok (ListLoaded n (size_of ws))
 
 abbrev pub table_after : List ℕ → FileIn → List ℕ
 table_after table (unread r) = table
@@ -64,10 +61,10 @@ text_after text (table_met n m) = text
 text_after text (list_met n m) = text_for text m
 
 -- the answer and both buffers, by what the file holds
-pub record FileOutcome (m : FileIn) (table text : List ℕ) (r : Loaded) (table' text' : List ℕ) : Type 0 where
+pub record FileOutcome (m : FileIn) (table text : List ℕ) (r : Result Loaded Refusal) (table' text' : List ℕ) : Type 0 where
   pub answer : r ≡ loaded_for m
   pub cells : table' ≡ table_after table m
   pub bytes : text' ≡ text_after text m
 
-abbrev pub LoadOutcome : List ℕ → List ℕ → List ℕ → Loaded → List ℕ → List ℕ → Type 0
+abbrev pub LoadOutcome : List ℕ → List ℕ → List ℕ → Result Loaded Refusal → List ℕ → List ℕ → Type 0
 LoadOutcome file table text = FileOutcome (file_in (length table) (length text) file) table text

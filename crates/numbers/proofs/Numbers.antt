@@ -14,8 +14,10 @@ use native.Mathlib.Nat.{pow-suc}
 use native.Mathlib.Omega.{arith}
 use lib.ListN.{length, get_or, drop}
 use Rattle.theory.specs.Files.{number_limit, groups, number_bytes, numbers_bytes, NumberAt}
-use Rattle.numbers.specs.declared.NumberRead.{NumberRead}
-use Rattle.numbers.specs.declared.NumberRead.TheVariants.{Number, Bad}
+use Rattle.std.specs.declared.result.Result.{Result}
+use Rattle.std.specs.declared.result.Result.TheVariants.{Ok, Err}
+use Rattle.refusals.specs.declared.Refusal.{Refusal}
+use Rattle.numbers.specs.declared.Number.{Number}
 use Rattle.numbers.specs.Reads.{ReadAt}
 use Rattle.numbers.proofs.NumberLaws.{groups_last, groups_next}
 
@@ -75,13 +77,16 @@ numbers_one (x ∷ xs) (y ∷ ys) a b e f =
 
 -- ── The contract ──
 
-pub read_determined : (file : List ℕ) (p : ℕ) (r s : NumberRead) → ReadAt file p r → ReadAt file p s → r ≡ s
-read_determined file p (Number x i) (Number y j) a b =
+pub read_determined : (file : List ℕ) (p : ℕ) (r s : Result Number Refusal) → ReadAt file p r → ReadAt file p s → r ≡ s
+read_determined file p (Ok r) (Ok s) a b =
     let e = number_at_one a.0 b.0 in
-    ap (λ z. Number z i) e ∙ ap (Number y) (a.1 ∙ ap (λ z. p + length (number_bytes z)) e ∙ sym b.1)
-read_determined file p (Number x i) Bad a b = absurd (b x a.0)
-read_determined file p Bad (Number y j) a b = absurd (a y b.0)
-read_determined file p Bad Bad a b = refl
+    ap Ok (same r s e (a.1 ∙ ap (λ z. p + length (number_bytes z)) e ∙ sym b.1))
+  where
+    same : (r s : Number) → r.value ≡ s.value → r.next ≡ s.next → r ≡ s
+    same r s e f = ap (λ z. record { value = z; next = r.next }) e ∙ ap (λ z. record { value = s.value; next = z }) f
+read_determined file p (Ok r) (Err s) a b = absurd (b.1 r.value a.0)
+read_determined file p (Err r) (Ok s) a b = absurd (a.1 s.value b.0)
+read_determined file p (Err r) (Err s) a b = ap Err (a.0 ∙ sym b.0)
 
 -- ── By computation ──
 

@@ -1,24 +1,26 @@
--- The turns of `read_number` on plain values: a number stands at `at` exactly if what is read and the rest of it, from i on, make it.
---   Head                                         : d groups may follow, at `scale`, behind those that make `value`
---   head_first, head_turn, head_last, head_end_lem   : before the first turn, after a group that goes on, at a last group, at no byte
+-- The turns of `find_number` on plain values: a number stands at `at` exactly if what is read and the rest of it, from i on, make it.
+--   Head                                       : d groups may follow, at `scale`, behind those that make `value`
+--   Turn, turn_first, turn_small, turn_next, turn_last, turn_end : so in the terms of the loop: before the first turn, after a group that goes on,
+--                                                at a last group, at no byte
 -- Assumes nothing.
 use mathlib.Core.Path.{◌≡◌, refl, sym, ◌∙◌, ap, subst}
 use mathlib.Core.Logic.{by_cases}
 use mathlib.Core.Bool.{Bool, true, false, cond}
-use mathlib.Core.List.{List, [], ◌∷◌, ◌++◌}
-use Prim.Native.Nat.{ℕ, zero, suc, ◌+◌, ◌-◌, ◌*◌, ◌/◌, ◌%◌, ◌≤◌, ◌<◌, min}
+use mathlib.Core.List.{List, ◌∷◌, ◌++◌}
+use Prim.Native.Nat.{ℕ, zero, suc, ◌+◌, ◌-◌, ◌*◌, ◌/◌, ◌%◌, ◌≤◌, ◌<◌}
 use native.Mathlib.Decide.{ℕ_discrete, dec_lt}
 use native.Mathlib.Nat.{mul-add, mul_assoc, mul-le-mul, mul-le-mul_left}
 use native.Mathlib.Numerals.{add-one}
 use native.Mathlib.Omega.{arith}
 use lib.Dec.{ltb}
-use lib.ListN.{length, get_or, drop, length-drop, length-append, drop_of_length-le}
+use lib.ListN.{length, get_or, drop, length-drop, length-append}
 use lib.Seq.{drop-cons}
 use borrow.Author.Tests.{eq-eqb, ne_eqb, lt-ltb, le-ltb}
 use Rattle.theory.specs.Files.{number_limit, groups, number_bytes, NumberAt}
-use Rattle.numbers.specs.declared.NumberRead.{NumberRead}
-use Rattle.numbers.specs.declared.NumberRead.TheVariants.{Number, Bad}
-use Rattle.numbers.specs.Reads.{ReadAt, is_needless, last_read}
+use Rattle.std.specs.declared.option.Option.{Option}
+use Rattle.std.specs.declared.option.Option.TheVariants.{None, Some}
+use Rattle.numbers.specs.declared.Number.{Number}
+use Rattle.numbers.specs.Reads.{FoundAt, is_needless, last_read}
 use Rattle.numbers.proofs.NumberLaws.{groups_last, groups_next, groups_some}
 
 -- what is left of a number, from i on
@@ -63,6 +65,15 @@ scale_small (suc (suc (suc zero))) s h e = omega (arith, e)
 scale_small (suc (suc (suc (suc zero)))) s h e = omega (arith, e)
 scale_small (suc (suc (suc (suc (suc d))))) s h e = omega (arith, e)
 
+scaled_low : {scale b : ℕ} → scale ≤ 268435456 → b ≤ 127 → scale * b ≤ 34091302912
+scaled_low h k = mul-le-mul h k
+
+group_low : {scale b : ℕ} → scale ≤ 268435456 → b < 256 → scale * (b - 128) ≤ 34091302912
+group_low {scale} {b} h k = scaled_low h less
+  where
+    less : b - 128 ≤ 127
+    less = omega arith
+
 -- a number of a group and others, at a scale
 shift : (s r q y : ℕ) → y ≡ r + 128 * q → s * y ≡ s * r + s * 128 * q
 shift s r q y e = ap (λ z. s * z) e ∙ mul-add s r (128 * q) ∙ ap (λ z. s * r + z) (sym (mul_assoc s 128 q))
@@ -86,10 +97,7 @@ head_first file at h =
     is y = omega arith
 
 module _ {file : List ℕ} {at value scale i d : ℕ} (h : Head file at value scale i d) where
-  pub head_small : i < at + 5 → scale ≤ 268435456
-  head_small l = scale_small d scale (omega (arith, h.place)) h.scaled
-
-  pub head_begun : at ≤ i
+  head_begun : at ≤ i
   head_begun = omega (arith, h.place, h.few)
 
 module _ {file : List ℕ} {at value scale i d : ℕ} (h : Head file at value scale i (suc d)) (b : ℕ) (inside : i < length file) (is : b ≡ get_or file i 0) where
@@ -183,7 +191,7 @@ module _ {file : List ℕ} {at value scale i d : ℕ} (h : Head file at value sc
           λ m. omega (arith, o.2.more m, e),
         )
 
-    last_good : (1 < scale → 0 < b) → value + scale * b ≤ number_limit → ReadAt file at (Number (value + scale * b) (i + 1))
+    last_good : (1 < scale → 0 < b) → value + scale * b ≤ number_limit → FoundAt file at (Some (record { value = value + scale * b; next = i + 1 }))
     last_good m f = (
       record { fits = f; rest = drop (suc i) file; written = whole },
       omega (arith, ap length whole, length-drop at file, length-drop (suc i) file, length-append (number_bytes (value + scale * b)) (drop (suc i) file), head_begun h),
@@ -194,14 +202,14 @@ module _ {file : List ℕ} {at value scale i d : ℕ} (h : Head file at value sc
             h.made b
             (record { more = m; tail = drop (suc i) file; written = here ∙ ap (λ k. k ++ drop (suc i) file) (sym (groups_last d b l)) })
 
-    cast : {q r : NumberRead} → q ≡ r → ReadAt file at q → ReadAt file at r
-    cast e m = subst (ReadAt file at) e m
+    cast : {q r : Option Number} → q ≡ r → FoundAt file at q → FoundAt file at r
+    cast e m = subst (FoundAt file at) e m
 
-    none_read : ((x : ℕ) → NumberAt file at x → ⊥) → ReadAt file at Bad
+    none_read : ((x : ℕ) → NumberAt file at x → ⊥) → FoundAt file at None
     none_read f = f
 
-    fit : last_read value scale b (i + 1) ≡ cond (ltb number_limit (value + scale * b)) Bad (Number (value + scale * b) (i + 1)) → (1 < scale → 0 < b)
-        → ReadAt file at (last_read value scale b (i + 1))
+    fit : last_read value scale b (i + 1) ≡ cond {A = Option Number} (ltb number_limit (value + scale * b)) None (Some (record { value = value + scale * b; next = i + 1 })) → (1 < scale → 0 < b)
+        → FoundAt file at (last_read value scale b (i + 1))
     fit e m =
         by_cases (dec_lt number_limit (value + scale * b))
         (λ s. cast (sym (e ∙ big s))
@@ -209,14 +217,14 @@ module _ {file : List ℕ} {at value scale i d : ℕ} (h : Head file at value sc
         (λ s. cast (sym (e ∙ small (omega arith)))
         (last_good m (omega arith)))
       where
-        big : number_limit < value + scale * b → cond (ltb number_limit (value + scale * b)) Bad (Number (value + scale * b) (i + 1)) ≡ Bad
+        big : number_limit < value + scale * b → cond {A = Option Number} (ltb number_limit (value + scale * b)) None (Some (record { value = value + scale * b; next = i + 1 })) ≡ None
         big s = rw (lt-ltb number_limit (value + scale * b) s)
 
         small : value + scale * b ≤ number_limit
-            → cond (ltb number_limit (value + scale * b)) Bad (Number (value + scale * b) (i + 1)) ≡ Number (value + scale * b) (i + 1)
+            → cond {A = Option Number} (ltb number_limit (value + scale * b)) None (Some (record { value = value + scale * b; next = i + 1 })) ≡ Some (record { value = value + scale * b; next = i + 1 })
         small s = rw (le-ltb number_limit (value + scale * b) s)
 
-    last_read_lem : ReadAt file at (last_read value scale b (i + 1))
+    last_read_lem : FoundAt file at (last_read value scale b (i + 1))
     unfolding last_read is_needless
     last_read_lem =
         by_cases (ℕ_discrete b 0)
@@ -225,60 +233,80 @@ module _ {file : List ℕ} {at value scale i d : ℕ} (h : Head file at value sc
         (λ s. fit (rw (eq-eqb b 0 z, le-ltb 1 scale (omega arith))) (λ m. absurd (omega arith))))
         (λ z. fit (rw (ne_eqb b 0 z)) (λ m. omega arith))
       where
-        needless : b ≡ 0 → 1 < scale → last_read value scale b (i + 1) ≡ Bad
+        needless : b ≡ 0 → 1 < scale → last_read value scale b (i + 1) ≡ None
         needless z s = rw (eq-eqb b 0 z, lt-ltb 1 scale s)
 
--- ── In the terms of the code ──
+-- ── In the terms of the code: `count` bytes are read, `left` may follow, and `rest` stands from there on ──
 
-pub head_first_here : (file : List ℕ) (at : ℕ) → at ≤ length file → Head file at 0 1 at (at + 5 - at)
-head_first_here file at h = subst (Head file at 0 1 at) is (head_first file at h)
+pub record Turn (file : List ℕ) (at value scale : ℕ) (rest : List ℕ) (left count : ℕ) : Type 0 where
+  pub head : Head file at value scale (at + count) left
+  pub here : rest ≡ drop (at + count) file
+
+pub turn_first : (file : List ℕ) (at : ℕ) → at ≤ length file → Turn file at 0 1 (drop at file) 5 0
+turn_first file at h =
+    record {
+      head = subst (λ i. Head file at 0 1 i 5) (is at) (head_first file at h);
+      here = ap (λ i. drop i file) (is at);
+    }
   where
-    is : 5 ≡ at + 5 - at
-    is = omega arith
+    is : (at : ℕ) → at ≡ at + 0
+    is at = omega arith
 
-module _ {file : List ℕ} {at value scale i : ℕ} (h : Head file at value scale i (at + 5 - i)) where
-  one_more : i < at + 5 → Head file at value scale i (suc (at + 5 - (i + 1)))
-  one_more l = subst (Head file at value scale i) is h
+module _ {file : List ℕ} {at value scale left count : ℕ} {rest : List ℕ} (h : Turn file at value scale rest left count) where
+  -- no byte is left
+  turn_cut : 0 < left → length rest ≡ 0 → (x : ℕ) → NumberAt file at x → ⊥
+  turn_cut l e x n = go left l h.head (h.head.only x n)
     where
-      is : at + 5 - i ≡ suc (at + 5 - (i + 1))
-      is = omega arith
+      go : (d : ℕ) → 0 < d → Head file at value scale (at + count) d → (y : ℕ) × (x ≡ value + scale * y) × Rest file (at + count) d scale y → ⊥
+      go zero k g o = omega arith
+      go (suc d) k g o =
+          omega (arith, e, ap length (h.here ∙ o.2.written), length-append (groups (suc d) o.0) o.2.tail, groups_some d o.0)
 
-  pub head_turn : (b : ℕ) → i < min (length file) (at + 5) → b ≡ get_or file i 0 → 128 ≤ b → b < 256
-      → Head file at (value + scale * (b - 128)) (scale * 128) (i + 1) (at + 5 - (i + 1))
-  head_turn b l e k u = turned (one_more (omega (arith, l))) b (omega (arith, l)) e k u
+  -- five groups that go on make a number that is too big
+  turn_long : left ≡ 0 → (x : ℕ) → NumberAt file at x → ⊥
+  turn_long z x n =
+      let o = h.head.only x n in
+      let big = h.head.scaled ∙ ap scale_at z in
+      omega (arith, n.fits, o.1, ap (λ s. s * o.0) big, o.2.more (omega (arith, big)))
 
-  pub head_last : {r : NumberRead} (b : ℕ) → i < min (length file) (at + 5) → b ≡ get_or file i 0 → b < 128
-      → r ≡ last_read value scale b (i + 1) → ReadAt file at r
-  head_last b l e k f = subst (ReadAt file at) (sym f) (last_read_lem (one_more (omega (arith, l))) b (omega (arith, l)) e k)
+  pub turn_end : (0 < left → length rest ≡ 0) → (x : ℕ) → NumberAt file at x → ⊥
+  turn_end e = by_cases (dec_lt 0 left) (λ l. turn_cut l (e l)) (λ l. turn_long (omega (arith, l)))
 
-  pub head_end_lem : min (length file) (at + 5) ≤ i → (x : ℕ) → NumberAt file at x → ⊥
-  head_end_lem l x n = by_cases (dec_lt i (at + 5)) cut long
-    where
-      o : (y : ℕ) × (x ≡ value + scale * y) × Rest file i (at + 5 - i) scale y
-      o = h.only x n
+  module _ {b : ℕ} (left' : ℕ) {rest' : List ℕ} (is : rest ≡ b ∷ rest') (less : left' + 1 ≡ left) where
+    more : drop (at + count) file ≡ b ∷ rest'
+    more = sym h.here ∙ is
 
-      -- five groups that go on make a number that is too big
-      long : (i < at + 5 → ⊥) → ⊥
-      long k = omega (arith, n.fits, o.1, ap (λ s. s * o.0) big, o.2.more (omega (arith, big)))
-        where
-          none_left : at + 5 - i ≡ 0
-          none_left = omega (arith, k)
+    one_left : Head file at value scale (at + count) (suc left')
+    one_left = subst (Head file at value scale (at + count)) (sym less ∙ add-one left') h.head
 
-          big : scale ≡ 34359738368
-          big = h.scaled ∙ ap scale_at none_left
+    inside : at + count < length file
+    inside = omega (arith, ap length more, length-drop (at + count) file)
 
-      -- no byte is left
-      cut : i < at + 5 → ⊥
-      cut k = omega (arith, ap length ends, length-append (groups (suc (at + 5 - (i + 1))) o.0) o.2.tail, groups_some (at + 5 - (i + 1)) o.0)
-        where
-          is : at + 5 - i ≡ suc (at + 5 - (i + 1))
-          is = omega arith
+    byte : b ≡ get_or file (at + count) 0
+    byte = sym (ap (λ l. get_or l 0 0) (sym (drop-cons file (at + count) 0 inside) ∙ more))
 
-          ends : [] ≡ groups (suc (at + 5 - (i + 1))) o.0 ++ o.2.tail
-          ends =
-              sym (drop_of_length-le file {i = i} (omega (arith, l)))
-              ∙ o.2.written
-              ∙ ap (λ d. groups d o.0 ++ o.2.tail) is
+    -- all that is computed is small
+    pub turn_small : ((k : ℕ) → get_or file k 0 < 256) → (value < 268435456) × (scale ≤ 268435456) × (scale * (b - 128) ≤ 34091302912)
+    turn_small fits = (omega (arith, h.head.low, small), small, group_low small (omega (arith, byte, fits (at + count))))
+      where
+        small : scale ≤ 268435456
+        small = scale_small left scale (omega (arith, less)) h.head.scaled
+
+    pub turn_last : {r : Option Number} → b < 128 → r ≡ last_read value scale b (at + count + 1) → FoundAt file at r
+    turn_last k f = subst (FoundAt file at) (sym f) (last_read_lem one_left b inside byte k)
+
+    pub turn_next : 128 ≤ b → ((k : ℕ) → get_or file k 0 < 256) → Turn file at (value + scale * (b - 128)) (scale * 128) rest' left' (count + 1)
+    turn_next k fits =
+        record {
+          head = subst (λ i. Head file at (value + scale * (b - 128)) (scale * 128) i left') (on at count) (turned one_left b inside byte k (omega (arith, byte, fits (at + count))));
+          here = ap (drop 1) (sym more ∙ drop-cons file (at + count) 0 inside) ∙ ap (λ i. drop i file) (next at count);
+        }
+      where
+        on : (at count : ℕ) → at + count + 1 ≡ at + (count + 1)
+        on at count = omega arith
+
+        next : (at count : ℕ) → suc (at + count) ≡ at + (count + 1)
+        next at count = omega arith
 
 -- ── The last group, as code finds it ──
 
@@ -296,23 +324,14 @@ module _ (b scale : ℕ) where
   needless_behind h k = rw (eq-eqb b 0 (omega arith), lt-ltb 1 scale k)
 
 module _ (value scale b next : ℕ) {r : Bool} (is : r ≡ is_needless b scale) where
-  pub last_needless : r ≡ true → Bad ≡ last_read value scale b next
+  pub last_needless : r ≡ true → None ≡ last_read value scale b next
   unfolding last_read
   last_needless e = rw (sym is ∙ e)
 
-  pub last_big : r ≡ false → number_limit < value + scale * b → Bad ≡ last_read value scale b next
+  pub last_big : r ≡ false → number_limit < value + scale * b → None ≡ last_read value scale b next
   unfolding last_read
   last_big e h = rw (sym is ∙ e, lt-ltb number_limit (value + scale * b) h)
 
-  pub last_number : r ≡ false → value + scale * b ≤ number_limit → Number (value + scale * b) next ≡ last_read value scale b next
+  pub last_number : r ≡ false → value + scale * b ≤ number_limit → Some (record { value = value + scale * b; next = next }) ≡ last_read value scale b next
   unfolding last_read
   last_number e h = rw (sym is ∙ e, le-ltb number_limit (value + scale * b) h)
-
-pub scaled_low : {scale b : ℕ} → scale ≤ 268435456 → b ≤ 127 → scale * b ≤ 34091302912
-scaled_low h k = mul-le-mul h k
-
-pub group_low : {scale b : ℕ} → scale ≤ 268435456 → b < 256 → scale * (b - 128) ≤ 34091302912
-group_low {scale} {b} h k = scaled_low h less
-  where
-    less : b - 128 ≤ 127
-    less = omega arith

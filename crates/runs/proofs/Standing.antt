@@ -1,6 +1,6 @@
 -- The number that stands at a place, computed, is theory's.
 --   standing_sound, standing_complete : `number_at` gives x exactly if x is written there (theory, `NumberAt`)
---   none_standing                     : where `read_number` finds none, none stands
+--   none_standing                     : where no number is written none stands
 --   behind_inside                     : the place behind a number is in the file
 -- Assumes nothing.
 use mathlib.Core.Path.{◌≡◌, refl, sym, ◌∙◌, ap, subst}
@@ -17,8 +17,6 @@ use lib.ListN.{length, drop, length-drop, length-append}
 use borrow.Author.Tests.{eq-eqb, lt-ltb, le-ltb, le-leb, eqb-true, leb-true}
 use Rattle.theory.specs.Files.{number_limit, groups, number_bytes, NumberAt}
 use Rattle.theory.proofs.RefusalLaws.{and_true}
-use Rattle.numbers.specs.declared.NumberRead.TheVariants.{Bad}
-use Rattle.numbers.specs.Reads.{ReadAt}
 use Rattle.numbers.proofs.NumberLaws.{groups_last, groups_next, number_some}
 use Rattle.runs.specs.Runs.{on_groups, value_of, begins, is_written, if_written, number_in, number_at, behind}
 
@@ -78,8 +76,8 @@ standing_sound file p x e = go (value_of 5 (drop p file)) e
     go none f = absurd (none-ne-some _ f)
     go (some z) f = is z f (is_written z (drop p file)) refl
 
--- where no number can be read none stands
-pub none_standing : (file : List ℕ) (p : ℕ) → ReadAt file p Bad → number_at file p ≡ none
+-- where no number is written none stands
+pub none_standing : (file : List ℕ) (p : ℕ) → ((x : ℕ) → NumberAt file p x → ⊥) → number_at file p ≡ none
 none_standing file p a = go (number_at file p) refl
   where
     go : (o : Option ℕ) → number_at file p ≡ o → o ≡ none

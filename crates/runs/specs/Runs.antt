@@ -8,11 +8,12 @@
 -- `proofs/Standing` joins `number_at` to theory's `NumberAt`. Assumes nothing.
 use Rattle.std.specs.Prelude.{Bool, true, false, cond, ◌&&◌, List, [], ◌∷◌, ℕ, zero, suc, ◌+◌, ◌-◌, ◌*◌, eqb, ltb, leb, length, drop}
 use Rattle.std.proofs.Math.Option.{Option, none, some}
+use Rattle.std.specs.declared.result.Result.{Result}
+use Rattle.std.specs.declared.result.Result.TheVariants.{Ok, Err}
 use Rattle.theory.specs.Files.{number_limit, number_bytes}
 use Rattle.theory.specs.Refusals.{Refusal as FirstCause}
+use Rattle.refusals.specs.declared.Refusal.{Refusal}
 use Rattle.refusals.specs.Given.{given}
-use Rattle.runs.specs.declared.Skipped.{Skipped}
-use Rattle.runs.specs.declared.Skipped.TheVariants.{Refused, Behind}
 
 -- a group, and the value of the groups behind it
 abbrev pub on_groups : ℕ → Option ℕ → Option ℕ
@@ -71,9 +72,9 @@ numbers_at limit file p zero = whole [] p
 numbers_at limit file p (suc k) = run_on limit p (number_at file p) (λ q. numbers_at limit file q k)
 
 -- a run as `skip` answers it
-abbrev pub skipped_as : Run → Skipped
-skipped_as (broken r) = Refused (given r)
-skipped_as (whole xs q) = Behind q
+abbrev pub skipped_as : Run → Result ℕ Refusal
+skipped_as (broken r) = Err (given r)
+skipped_as (whole xs q) = Ok q
 
 -- a run that was read to its end, its numbers, and the place behind them
 abbrev pub Whole : Run → Type 0

@@ -1,49 +1,33 @@
 -- The turns of `put_cells` on plain values: i cells are written, the numbers from p on are still to come.
 --   Head                              : the numbers before are written, those behind make a whole run
---   head_first, head_bad, head_value, head_turn, head_done
+--   head_some, head_turn, head_done
 -- Assumes nothing.
 use mathlib.Core.Path.{◌≡◌, refl, sym, ◌∙◌, ap, subst}
 use mathlib.Core.Bool.{Bool, true, false, cond}
-use mathlib.Core.Option.{Option, none, some}
+use mathlib.Core.Option.{none, some}
 use mathlib.Core.List.{List, [], ◌∷◌, ◌++◌, append_assoc, append-nil}
 use Prim.Native.Nat.{ℕ, zero, suc, ◌+◌, ◌-◌, ◌≤◌, ◌<◌}
 use native.Mathlib.Numerals.{add-one}
 use native.Mathlib.Omega.{arith}
 use lib.Dec.{ltb}
 use borrow.Author.Tests.{eq-eqb, ne_eqb}
-use lib.ListN.{length, take, drop, set, length-set, take-append-drop}
-use lib.Seq.{take-suc-set, drop-set-lt, drop-drop}
-use Rattle.theory.specs.Files.{number_limit}
-use Rattle.numbers.specs.declared.NumberRead.{NumberRead}
-use Rattle.numbers.specs.declared.NumberRead.TheVariants.{Number, Bad}
-use Rattle.numbers.specs.Reads.{ReadAt}
+use lib.ListN.{length, take, set, length-set}
+use lib.Seq.{take-suc-set, take-length}
+use Rattle.theory.specs.Files.{number_limit, NumberAt}
+use Rattle.numbers.specs.declared.Number.{Number}
+use Rattle.numbers.specs.Reads.{Stands}
 use Rattle.runs.specs.Runs.{Run, broken, whole, on_run, run_on, number_at, behind, numbers_at}
-use Rattle.runs.proofs.Standing.{standing_sound, standing_complete, behind_inside}
+use Rattle.runs.proofs.Standing.{standing_complete, none_standing, behind_inside}
 use Rattle.table_files.specs.TableFiles.{number_cell}
 use Rattle.table_files.specs.Parts.{Whole, cells_of, run_of}
 
--- the numbers before are `done`, those behind `todo`
-pub record Head (file : List ℕ) (at count : ℕ) (table : List ℕ) (p i : ℕ) (cells : List ℕ) : Type 0 where
+-- of the cells that are to be written i are, and the others' numbers stand from p on
+pub record Head (file : List ℕ) (at count : ℕ) (p i : ℕ) (cells : List ℕ) : Type 0 where
   pub inside : p ≤ length file
   pub few : i ≤ count
-  pub same : length cells ≡ length table
+  pub same : length cells ≡ count
   pub todo : Whole (run_of file p (count - i))
   pub written : take i cells ++ cells_of (run_of file p (count - i)) ≡ cells_of (run_of file at count)
-  pub kept : drop i cells ≡ drop i table
-
-pub head_first : (file : List ℕ) (at count : ℕ) (table : List ℕ) → at ≤ length file → Whole (run_of file at count) → Head file at count table at 0 table
-head_first file at count table h w =
-    record {
-      inside = h;
-      few = omega arith;
-      same = refl;
-      todo = subst (λ k. Whole (run_of file at k)) (whole_count count) w;
-      written = ap (λ k. cells_of (run_of file at k)) (sym (whole_count count));
-      kept = refl;
-    }
-  where
-    whole_count : (k : ℕ) → k ≡ k - 0
-    whole_count k = omega arith
 
 -- a whole run of some numbers: the first, and a whole run behind it
 pub record Split (file : List ℕ) (p k x : ℕ) : Type 0 where
@@ -82,50 +66,42 @@ split file p k x h e w = go (ltb x (number_limit + 1)) refl (run_of file (behind
     go true f (broken r) g = absurd (subst Whole (is true f (broken r) g) w)
     go false f r g = absurd (subst Whole (is false f r g) w)
 
-module _ {file : List ℕ} {at count : ℕ} {table : List ℕ} {p i : ℕ} {cells : List ℕ} (h : Head file at count table p i cells) where
-  pub head_bad : i < count → (r : NumberRead) → ReadAt file p r → r ≡ Bad → ⊥
-  head_bad l r a e = go (number_at file p) refl
-    where
-      go : (o : Option ℕ) → number_at file p ≡ o → ⊥
-      go none f = no_run file p (count - i) (omega arith) f h.todo
-      go (some x) f = subst (ReadAt file p) e a x (standing_sound file p x f)
+module _ {file : List ℕ} {at count p i : ℕ} {cells : List ℕ} (h : Head file at count p i cells) where
+  -- a number stands where one is to come
+  pub head_some : i < count → ((x : ℕ) → NumberAt file p x → ⊥) → ⊥
+  head_some l a = no_run file p (count - i) (omega arith) (none_standing file p a) h.todo
 
-  pub head_value : (r : NumberRead) (x next : ℕ) → ReadAt file p r → r ≡ Number x next → x ≤ number_limit
-  head_value r x next a e = (subst (ReadAt file p) e a).0.fits
-
-  pub head_turn : i < count → count ≤ length table → (r : NumberRead) (x next c : ℕ) → ReadAt file p r → r ≡ Number x next → c ≡ number_cell x
-      → Head file at count table next (i + 1) (set cells i c)
+  pub head_turn : i < count → (number : Number) (c : ℕ) → Stands file p number → c ≡ number_cell number.value
+      → Head file at count number.next (i + 1) (set cells i c)
   unfolding behind
-  head_turn l room r x next c a e f =
-      let s = subst (ReadAt file p) e a in
+  head_turn l number c s f =
+      let x : ℕ = number.value in
       let t = split file p (count - i) x (omega arith) (standing_complete file p x s.0) h.todo in
       record {
         inside = rw s.1 (behind_inside file p x h.inside s.0).1;
         few = omega arith;
         same = length-set cells i c ∙ h.same;
-        todo = subst (λ k. Whole (run_of file next k)) (less count i) (subst (λ q. Whole (run_of file q (count - i - 1))) (sym s.1) t.rest);
+        todo = subst (λ k. Whole (run_of file number.next k)) (less count i) (subst (λ q. Whole (run_of file q (count - i - 1))) (sym s.1) t.rest);
         written =
-            ap (λ l. l ++ cells_of (run_of file next (count - (i + 1)))) (ap (λ j. take j (set cells i c)) (add-one i) ∙ take-suc-set cells i c (omega (arith, h.same)))
-            ∙ append_assoc (take i cells) (c ∷ []) (cells_of (run_of file next (count - (i + 1))))
+            ap (λ l. l ++ cells_of (run_of file number.next (count - (i + 1)))) (ap (λ j. take j (set cells i c)) (add-one i) ∙ take-suc-set cells i c (omega (arith, h.same)))
+            ∙ append_assoc (take i cells) (c ∷ []) (cells_of (run_of file number.next (count - (i + 1))))
             ∙ ap (λ l. take i cells ++ l) (
-            ap (λ z. z ∷ cells_of (run_of file next (count - (i + 1)))) f
-            ∙ ap (λ k. number_cell x ∷ cells_of (run_of file next k)) (sym (less count i))
+            ap (λ z. z ∷ cells_of (run_of file number.next (count - (i + 1)))) f
+            ∙ ap (λ k. number_cell x ∷ cells_of (run_of file number.next k)) (sym (less count i))
             ∙ ap (λ q. number_cell x ∷ cells_of (run_of file q (count - i - 1))) s.1
             ∙ sym t.cells
             )
             ∙ h.written;
-        kept = drop-set-lt (i + 1) cells i c (omega arith) ∙ sym (drop-drop 1 i cells) ∙ ap (λ l. drop 1 l) h.kept ∙ drop-drop 1 i table;
       }
     where
       less : (k i : ℕ) → k - i - 1 ≡ k - (i + 1)
       less k i = omega arith
 
-  pub head_done : count ≤ i → cells ≡ cells_of (run_of file at count) ++ drop count table
+  pub head_done : count ≤ i → cells ≡ cells_of (run_of file at count)
   unfolding run_of numbers_at cells_of
   head_done l =
-      sym (take-append-drop i cells)
-      ∙ ap (λ l. l ++ drop i cells) (sym (append-nil (take i cells)) ∙ ap (λ k. take i cells ++ cells_of (run_of file p k)) (sym none_left) ∙ h.written)
-      ∙ ap (λ l. cells_of (run_of file at count) ++ l) (h.kept ∙ ap (λ j. drop j table) all)
+      sym (take-length cells) ∙ ap (λ k. take k cells) (h.same ∙ sym all) ∙ sym (append-nil (take i cells))
+      ∙ ap (λ k. take i cells ++ cells_of (run_of file p k)) (sym none_left) ∙ h.written
     where
       none_left : count - i ≡ 0
       none_left = omega arith

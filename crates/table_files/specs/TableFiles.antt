@@ -6,15 +6,16 @@
 -- Assumes nothing.
 use Rattle.std.specs.Prelude.{◌≡◌, cond, List, ◌++◌, map, ℕ, ◌+◌, ◌-◌, ◌*◌, eqb, ltb, length, drop}
 use Rattle.std.proofs.Math.Option.{Option, none, some}
+use Rattle.std.specs.declared.result.Result.{Result}
+use Rattle.std.specs.declared.result.Result.TheVariants.{Ok, Err}
 use Rattle.theory.specs.Files.{number_limit}
 use Rattle.theory.specs.Refusals.{Refusal as FirstCause}
 use Rattle.theory.specs.TableRefusals.{is_lent, cell_refusal}
 use Rattle.theory.specs.Tables.{absent}
 use Rattle.cells.specs.Filled.{filled}
+use Rattle.refusals.specs.declared.Refusal.{Refusal}
 use Rattle.refusals.specs.Given.{given}
 use Rattle.runs.specs.Runs.{Run, broken, whole, number_at, behind, numbers_at}
-use Rattle.table_files.specs.declared.TableRead.{TableRead}
-use Rattle.table_files.specs.declared.TableRead.TheVariants.{Refused, Read}
 
 unfoldable pub number_cell : ℕ → ℕ
 number_cell x = cond (eqb x 0) absent (x - 1)
@@ -48,16 +49,16 @@ points_in n cells file p (some N) =
 unfoldable pub table_in : ℕ → ℕ → List ℕ → ℕ → TableIn
 table_in n cells file p = points_in n cells file p (number_at file p)
 
-abbrev pub read_for : TableIn → TableRead
-read_for (refused r) = Refused (given r)
-read_for (faulty count r) = Refused (given r)
-read_for (sound N t) = Read N
+abbrev pub read_for : TableIn → Result ℕ Refusal
+read_for (refused r) = Err (given r)
+read_for (faulty count r) = Err (given r)
+read_for (sound N t) = Ok N
 
 abbrev pub table_for : List ℕ → TableIn → List ℕ
 table_for table (refused r) = table
 table_for table (faulty count r) = filled count absent table
 table_for table (sound N t) = t ++ drop (length t) table
 
-pub record TableOutcome (n : ℕ) (file : List ℕ) (p : ℕ) (table : List ℕ) (r : TableRead) (after : List ℕ) : Type 0 where
+pub record TableOutcome (n : ℕ) (file : List ℕ) (p : ℕ) (table : List ℕ) (r : Result ℕ Refusal) (after : List ℕ) : Type 0 where
   pub answer : r ≡ read_for (table_in n (length table) file p)
   pub cells : after ≡ table_for table (table_in n (length table) file p)

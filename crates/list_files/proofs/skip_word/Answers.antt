@@ -1,33 +1,27 @@
--- src/lib.rt:39:11
--- src/lib.rt:40:65
--- src/lib.rt:40:44
--- src/lib.rt:41:30
--- src/lib.rt:42:49
--- src/lib.rt:42:19
--- src/lib.rt:43:34
--- src/lib.rt:44:33
--- src/lib.rt:44:77
--- src/lib.rt:35:1
--- src/lib.rt:35:1
--- src/lib.rt:35:1
+-- The length of a word, then its letters (SkipTurn).
+-- Assumes nothing.
 use native.Mathlib.Omega.{arith}
-use mathlib.Core.Path.{◌∙◌, ap}
+use Rattle.std.proofs.lemmas.Result.{err_from_is_err_and}
 use Rattle.theory.proofs.RefusalLaws.{alphabet_in}
-use Rattle.list_files.specs.declared.Passed.TheVariants.{Refused}
 use Rattle.list_files.proofs.SkipTurn.{word_missing, word_inside, word_broken, word_passed}
 use Rattle.list_files.proofs.skip_word.Goals as goal
+
+pub returns-in_err-number : goal.returns-in_err-number
+returns-in_err-number c =
+    let p = err_from_is_err_and c.from_residual.result c.from_residual.ensures.1 in
+    record { passed = rw (p.1, p.2) (word_missing _ _ _ c.in_err-number.ensures.number) }
 
 pub overflow_mul-n : goal.overflow_mul-n
 overflow_mul-n c = omega (arith, (alphabet_in _ c.requires.0).1)
 
 pub skip-requires : goal.skip-requires
-skip-requires c = (word_inside _ _ c.read_number.ensures.number c.in-Number.is c.requires.1).1
+skip-requires c = (word_inside _ _ c.in_ok-number.number c.in_ok-number.ensures.number c.requires.1).1
 
-pub returns-in-Bad : goal.returns-in-Bad
-returns-in-Bad c = record { passed = ap Refused c.refuse.ensures.made ∙ word_missing _ _ _ c.read_number.ensures.number c.in-Bad.is }
+pub returns-in_err-place : goal.returns-in_err-place
+returns-in_err-place c =
+    let p = err_from_is_err_and c.from_residual-in_err-place.result c.from_residual-in_err-place.ensures.1 in
+    record { passed = rw (p.1, p.2) (word_broken _ _ _ c.in_ok-number.number c.in_ok-number.ensures.number c.in_err-place.ensures.skipped) }
 
-pub returns-in-Refused : goal.returns-in-Refused
-returns-in-Refused c = record { passed = word_broken _ _ _ c.read_number.ensures.number c.in-Number.is c.skip.ensures.skipped c.in-Refused.is }
-
-pub returns-in-Behind : goal.returns-in-Behind
-returns-in-Behind c = record { passed = word_passed _ _ _ c.read_number.ensures.number c.in-Number.is c.requires.1 c.skip.ensures.skipped c.in-Behind.is }
+pub returns : goal.returns
+returns c =
+    record { passed = word_passed _ _ _ c.in_ok-number.number c.in_ok-number.ensures.number c.requires.1 c.in_ok-place.ensures.skipped }

@@ -1,17 +1,23 @@
-use native.Mathlib.Omega.{arith}
-use Rattle.loads.proofs.LoadLaws.{kind_missing, kind_other, kind_there, next_inside}
-use mathlib.Core.Path.{ap}
-use mathlib.Core.Bool.{not}
+-- The kind (LoadLaws).
+-- Assumes nothing.
+use Rattle.std.proofs.lemmas.Result.{err_from_is_err_and}
+use Rattle.loads.proofs.LoadLaws.{kind_missing, kind_other, kind_there}
 use Rattle.loads.proofs.load.Goals as goal
 
-pub returns-then-not-is_kind : goal.returns-then-not-is_kind
-returns-then-not-is_kind c = record { outcome = kind_other _ _ _ c.read_number.ensures.number c.in-Number.is c.is_kind.ensures.kind (ap not c.if-not-is_kind.true) c.refuse-then-not-is_kind.ensures.made c.refused-then-not-is_kind.ensures.answer }
+pub returns-in_err-number : goal.returns-in_err-number
+returns-in_err-number c =
+    let p = err_from_is_err_and c.from_residual.result c.from_residual.ensures.1 in
+    record { outcome = rw (p.1, p.2) (kind_missing _ _ _ c.in_err-number.ensures.number) }
 
-pub load_kind-requires : goal.load_kind-requires
-load_kind-requires c = next_inside _ _ c.read_number.ensures.number c.in-Number.is (omega arith)
+pub returns-in_err-kind : goal.returns-in_err-kind
+returns-in_err-kind c =
+    let p = err_from_is_err_and c.from_residual-in_err-kind.result c.from_residual-in_err-kind.ensures.1 in
+    record { outcome = rw (p.1, p.2) (kind_other _ _ _ c.in_ok-number.number c.in_ok-number.ensures.number c.in_err-kind.ensures) }
 
-pub returns-in-Bad : goal.returns-in-Bad
-returns-in-Bad c = record { outcome = kind_missing _ _ _ c.read_number.ensures.number c.in-Bad.is c.refuse.ensures.made c.refused.ensures.answer }
-
-pub returns-else-not-is_kind : goal.returns-else-not-is_kind
-returns-else-not-is_kind c = record { outcome = kind_there _ _ _ c.read_number.ensures.number c.in-Number.is c.is_kind.ensures.kind (ap not c.if-not-is_kind.false) c.load_kind.ensures.outcome }
+pub returns : goal.returns
+returns c =
+    record {
+      outcome =
+          kind_there _ _ _ c.in_ok-number.number c.in_ok-number.ensures.number c.in_ok-kind.kind c.in_ok-kind.ensures
+          c.load_kind.ensures.outcome;
+    }

@@ -1,8 +1,5 @@
 -- `is_needless` meets its contract, in its three cases (`ReadTurn`).
 -- Assumes nothing.
--- src/lib.rt:65:9
--- src/lib.rt:68:9
--- src/lib.rt:61:1
 use Rattle.numbers.proofs.ReadTurn.{needless_some, needless_alone, needless_behind}
 use native.Mathlib.Omega.{arith}
 use Rattle.numbers.proofs.is_needless.Goals as goal

@@ -1,11 +1,5 @@
 -- `last_group` meets its contract: the group is needless, or the number too big, or neither (`ReadTurn`).
 -- Assumes nothing.
--- src/lib.rt:65:21
--- src/lib.rt:65:13
--- src/lib.rt:66:8
--- src/lib.rt:67:9
--- src/lib.rt:70:9
--- src/lib.rt:61:1
 use Rattle.numbers.proofs.ReadTurn.{last_needless, last_big, last_number}
 use native.Mathlib.Omega.{arith}
 use Rattle.numbers.proofs.last_group.Goals as goal

@@ -1,10 +1,5 @@
 -- `number_size` answers the number of bytes of x: the loop holds `Head` of NumberLaws, and `rest` falls.
 -- Assumes nothing.
--- src/lib.rt:22:5
--- src/lib.rt:24:9
--- src/lib.rt:22:5
--- src/lib.rt:22:5
--- src/lib.rt:16:1
 use Rattle.numbers.proofs.NumberLaws.{Head}
 use Rattle.numbers.proofs.number_size.Given as goal
 

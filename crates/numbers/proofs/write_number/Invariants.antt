@@ -1,17 +1,5 @@
 -- `write_number` leaves the bytes of x from `at` on and keeps the others: the loop holds `Head` of WriteTurn, and `rest` falls.
 -- Assumes nothing.
--- src/lib.rt:36:5
--- src/lib.rt:37:24
--- src/lib.rt:37:18
--- src/lib.rt:37:9
--- src/lib.rt:39:9
--- src/lib.rt:36:5
--- src/lib.rt:36:5
--- src/lib.rt:41:14
--- src/lib.rt:41:5
--- src/lib.rt:42:5
--- src/lib.rt:30:1
--- src/lib.rt:30:1
 use Rattle.numbers.proofs.WriteTurn.{Head}
 use Rattle.numbers.proofs.write_number.Given as goal
 

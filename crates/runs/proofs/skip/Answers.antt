@@ -1,17 +1,27 @@
-use native.Mathlib.Omega.{arith}
+-- Where no number stands, where one is too big, where one does, and behind the last (SkipTurn).
+-- Assumes nothing.
 use mathlib.Core.Path.{◌∙◌, ap}
-use Rattle.runs.specs.declared.Skipped.TheVariants.{Refused}
-use Rattle.runs.proofs.SkipTurn.{head_bad, head_beyond, head_turn, head_done}
+use Rattle.std.proofs.lemmas.Result.{err_from_is_err_and}
+use Rattle.std.specs.declared.result.Result.TheVariants.{Err}
+use Rattle.runs.proofs.SkipTurn.{head_none, head_beyond, head_turn, head_done}
 use Rattle.runs.proofs.skip.Goals as goal
 
-pub returns-in-Bad : goal.returns-in-Bad
-returns-in-Bad c = record { skipped = ap Refused c.refuse.ensures.made ∙ head_bad c.loop-left.invariant c.loop-left-test.true _ c.read_number.ensures.number c.in-Bad.is }
+pub returns-in_err-number : goal.returns-in_err-number
+returns-in_err-number c =
+    let p = err_from_is_err_and c.from_residual.result c.from_residual.ensures.1 in
+    record { skipped = rw (p.1, p.2) (head_none c.loop.invariant c.loop-test.true _ c.in_err-number.ensures.number) }
 
-pub returns-then-limit-value : goal.returns-then-limit-value
-returns-then-limit-value c = record { skipped = ap Refused c.refuse-then-limit-value.ensures.made ∙ head_beyond c.loop-left.invariant c.loop-left-test.true _ _ _ c.read_number.ensures.number c.in-Number.is (omega (arith, c.if-limit-value.true)) }
+pub returns-then-limit-number : goal.returns-then-limit-number
+returns-then-limit-number c =
+    record {
+      skipped =
+          ap Err c.refuse.ensures.made
+          ∙ head_beyond c.loop.invariant c.loop-test.true c.in_ok-number.number c.in_ok-number.ensures.number c.if-limit-number.true;
+    }
 
-pub loop-left-preserved : goal.loop-left-preserved
-loop-left-preserved c = head_turn c.loop-left.invariant c.loop-left-test.true _ _ _ c.read_number.ensures.number c.in-Number.is (omega (arith, c.if-limit-value.false))
+pub loop-preserved : goal.loop-preserved
+loop-preserved c =
+    head_turn c.loop.invariant c.loop-test.true c.in_ok-number.number c.in_ok-number.ensures.number c.if-limit-number.false
 
 pub returns : goal.returns
-returns c = record { skipped = head_done c.loop-left.invariant (omega (arith, c.loop-left-test.false)) }
+returns c = record { skipped = head_done c.loop.invariant c.loop-test.false }
