@@ -1,18 +1,18 @@
--- The numbers of a table's cells (`specs/Runs`), and the file that they make.
+-- The numbers of a table's cells, and the file that they make.
 --   number_absent, number_point : the number of a cell
---   cells_next, cells_end       : the numbers from cell i on
+--   size_few, head_few          : at most five bytes a number
 --   table_numbers, head_sized   : a table's file is its head and its cells
 --   savable                     : the sizes of a table that is not refused
 -- Assumes nothing.
-use mathlib.Core.Path.{◌≡◌, refl, sym, ◌∙◌, ap}
+use mathlib.Core.Path.{◌≡◌, sym, ◌∙◌, ap}
 use mathlib.Core.Bool.{not}
 use mathlib.Core.Option.{none}
 use mathlib.Core.List.{List, [], ◌∷◌, ◌++◌, map}
-use Prim.Native.Nat.{ℕ, zero, suc, ◌+◌, ◌*◌, ◌≤◌, ◌<◌}
-use native.Mathlib.Numerals.{add-one}
+use Prim.Native.Nat.{ℕ, ◌+◌, ◌*◌, ◌≤◌}
 use native.Mathlib.Omega.{arith}
-use lib.ListN.{length, get_or, take, drop, length-append, drop_of_length-le}
+use lib.ListN.{length, take, length-append}
 use borrow.Author.Tests.{eq-eqb, ne_eqb, not-false}
+use Rattle.std.proofs.lemmas.List.{length-map}
 use Rattle.theory.specs.Files.{number_limit, number_bytes, numbers_bytes, cell_number, table_file}
 use Rattle.theory.specs.Refusals.{is_alphabet, refused_if}
 use Rattle.theory.specs.Tables.{absent}
@@ -21,7 +21,7 @@ use Rattle.theory.proofs.RefusalLaws.{alphabet_in}
 use Rattle.theory.proofs.TableRefusalLaws.{else_none, unrefused, lent_in}
 use Rattle.numbers.specs.Splices.{WrittenAt}
 use Rattle.numbers.proofs.NumberLaws.{length_small}
-use Rattle.saves.specs.Runs.{cell_numbers, Savable}
+use Rattle.saves.specs.Runs.{Savable}
 use Rattle.saves.proofs.RunLaws.{numbers_append, numbers_few, numbers_more, numbers_none, front_room, back_room, both_written}
 
 -- ── A cell ──
@@ -36,29 +36,8 @@ number_point x e h = (rw (ne_eqb x absent e), omega (arith, e))
 
 -- ── The cells ──
 
-pub cells_length : (count : ℕ) (t : List ℕ) → length (cell_numbers count t) ≤ count
-unfolding cell_numbers
-cells_length zero t = omega arith
-cells_length (suc c) [] = omega arith
-cells_length (suc c) (x ∷ t) = omega (arith, cells_length c t)
-
-cells_behind : (i count : ℕ) (t : List ℕ) → i < count → count ≤ length t
-    → drop i (cell_numbers count t) ≡ cell_number (get_or t i 0) ∷ drop (suc i) (cell_numbers count t)
-unfolding cell_numbers
-cells_behind i zero t h k = absurd (omega arith)
-cells_behind i (suc c) [] h k = absurd (omega arith)
-cells_behind zero (suc c) (x ∷ t) h k = refl
-cells_behind (suc i) (suc c) (x ∷ t) h k = cells_behind i c t (omega arith) (omega arith)
-
-pub cells_next : (i count : ℕ) (t : List ℕ) {x : ℕ} → i < count → count ≤ length t → x ≡ cell_number (get_or t i 0)
-    → drop i (cell_numbers count t) ≡ x ∷ drop (i + 1) (cell_numbers count t)
-cells_next i count t {x} h k e =
-    cells_behind i count t h k
-    ∙ ap (λ j. cell_number (get_or t i 0) ∷ drop j (cell_numbers count t)) (sym (add-one i))
-    ∙ ap (λ y. y ∷ drop (i + 1) (cell_numbers count t)) (sym e)
-
-pub cells_end : (i count : ℕ) (t : List ℕ) → count ≤ i → drop i (cell_numbers count t) ≡ []
-cells_end i count t h = drop_of_length-le (cell_numbers count t) {i = i} (omega (arith, cells_length count t))
+pub size_few : (t : List ℕ) → length (numbers_bytes (map cell_number t)) ≤ 5 * length t
+size_few t = omega (arith, numbers_few (map cell_number t), length-map t cell_number)
 
 -- ── The file ──
 
@@ -68,16 +47,16 @@ head_sized kind n count size a b e =
     omega (arith, e, numbers_more kind (n ∷ count ∷ []), numbers_more n (count ∷ []), numbers_more count [], numbers_none, length_small kind (omega arith), length_small n (omega arith))
 
 pub table_numbers : (n N count : ℕ) (t : List ℕ) → count ≡ N * (2 * n)
-    → numbers_bytes (1 ∷ n ∷ N ∷ []) ++ numbers_bytes (cell_numbers count t) ≡ table_file n N t
-unfolding table_file cell_numbers
+    → numbers_bytes (1 ∷ n ∷ N ∷ []) ++ numbers_bytes (map cell_number (take count t)) ≡ table_file n N t
+unfolding table_file
 table_numbers n N count t e =
     sym (numbers_append (1 ∷ n ∷ N ∷ []) (map cell_number (take count t)))
     ∙ ap (λ k. numbers_bytes (1 ∷ n ∷ N ∷ map cell_number (take k t))) e
 
 pub table_sized : (n N count head size : ℕ) (t : List ℕ) → count ≡ N * (2 * n) → head ≡ length (numbers_bytes (1 ∷ n ∷ N ∷ []))
-    → size ≡ length (numbers_bytes (cell_numbers count t)) → head + size ≡ length (table_file n N t)
+    → size ≡ length (numbers_bytes (map cell_number (take count t))) → head + size ≡ length (table_file n N t)
 table_sized n N count head size t e a b =
-    omega (arith, a, b, length-append (numbers_bytes (1 ∷ n ∷ N ∷ [])) (numbers_bytes (cell_numbers count t)), ap length (table_numbers n N count t e))
+    omega (arith, a, b, length-append (numbers_bytes (1 ∷ n ∷ N ∷ [])) (numbers_bytes (map cell_number (take count t))), ap length (table_numbers n N count t e))
 
 -- ── The sizes ──
 
@@ -97,7 +76,7 @@ module _ (n N count : ℕ) (t out : List ℕ) (e : count ≡ N * (2 * n)) (room 
   head = numbers_bytes (1 ∷ n ∷ N ∷ [])
 
   abbrev cells : List ℕ
-  cells = numbers_bytes (cell_numbers count t)
+  cells = numbers_bytes (map cell_number (take count t))
 
   pub head_room : length head ≤ length out
   head_room = omega (arith, front_room 0 head cells (table_file n N t) out (table_numbers n N count t e) (omega (arith, room)))
@@ -108,9 +87,6 @@ module _ (n N count : ℕ) (t out : List ℕ) (e : count ≡ N * (2 * n)) (room 
   pub table_made : {at end : ℕ} {mid after : List ℕ} → WrittenAt 0 head out at mid → WrittenAt at cells mid end after
       → WrittenAt 0 (table_file n N t) out end after
   table_made a b = both_written 0 head cells (table_file n N t) out (table_numbers n N count t e) (omega (arith, room)) a b
-
-pub size_few : (count : ℕ) (t : List ℕ) → length (numbers_bytes (cell_numbers count t)) ≤ 5 * count
-size_few count t = omega (arith, numbers_few (cell_numbers count t), cells_length count t)
 
 pub head_few : (kind n count : ℕ) → length (numbers_bytes (kind ∷ n ∷ count ∷ [])) ≤ 15
 head_few kind n count = omega (arith, numbers_few (kind ∷ n ∷ count ∷ []))

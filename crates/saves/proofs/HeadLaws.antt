@@ -1,13 +1,25 @@
 -- The head of a file, written: the kind, n and a count, one behind the other.
 --   first_room, second_room, third_room : each has its place; head_written : and then the head stands there
+--   small_kind : a kind's number takes one byte; written_kind : what is written for it is its number
 -- Assumes nothing.
-use mathlib.Core.Path.{refl}
+use mathlib.Core.Path.{◌≡◌, refl, subst}
 use mathlib.Core.List.{List, [], ◌∷◌}
 use Prim.Native.Nat.{ℕ, ◌+◌, ◌≤◌}
 use lib.ListN.{length}
 use Rattle.theory.specs.Files.{number_bytes, numbers_bytes}
+use native.Mathlib.Omega.{arith}
+use Rattle.numbers.specs.declared.Kind.{Kind}
+use Rattle.numbers.specs.declared.Kind.TheVariants.{Table, List as ListKind}
+use Rattle.numbers.specs.Kinds.{kind_number}
 use Rattle.numbers.specs.Splices.{WrittenAt}
 use Rattle.saves.proofs.RunLaws.{Run, run_start, run_room, run_turn, run_done}
+
+pub small_kind : (kind : Kind) → kind_number kind ≤ 127
+small_kind Table = omega arith
+small_kind ListKind = omega arith
+
+pub written_kind : {k m p : ℕ} {out one : List ℕ} → k ≡ m → WrittenAt 0 (number_bytes k) out p one → WrittenAt 0 (number_bytes m) out p one
+written_kind {k} {m} {p} {out} {one} e w = subst (λ j. WrittenAt 0 (number_bytes j) out p one) e w
 
 module _ (kind n count : ℕ) (out : List ℕ) (room : length (numbers_bytes (kind ∷ n ∷ count ∷ [])) ≤ length out) where
   abbrev whole : List ℕ

@@ -8,7 +8,7 @@ use mathlib.Core.Option.{none}
 use mathlib.Core.List.{List, [], ◌∷◌}
 use Prim.Native.Nat.{ℕ}
 use native.Mathlib.Omega.{arith}
-use lib.ListN.{get_or, replicate}
+use lib.ListN.{length, get_or, replicate}
 use Rattle.theory.specs.Words.{inv}
 use Rattle.theory.specs.Files.{groups, number_bytes, numbers_bytes, cell_number, table_file, word_numbers, list_file}
 use Rattle.theory.specs.Letters.{letter_bytes, place_in, letter_of, is_letter, up_to, usual, on_first, words_of}
@@ -29,12 +29,12 @@ use Rattle.theory.specs.Canonical.{
   first_place,
   faulty_cell,
 }
+use Rattle.std.specs.declared.result.Result.{Result}
+use Rattle.std.specs.declared.result.Result.TheVariants.{Err}
 use Rattle.refusals.specs.declared.Refusal.{Refusal}
-use Rattle.saves.specs.declared.Saved.{Saved}
-use Rattle.saves.specs.declared.Saved.TheVariants.{Refused}
+use Rattle.refusals.specs.Given.{unless}
 use Rattle.saves.specs.Saves.{
   short_refusal,
-  saved_for,
   out_for,
   save_table_refusal,
   SaveTableOutcome,
@@ -59,11 +59,11 @@ list_fine : save_list_refusal 1 a1 6 ≡ none
 unfolding save_list_refusal text_refusal is_alphabet bytes_refusal byte_refusal is_unended is_letter letter_of place_in letter_bytes short_refusal list_file word_numbers numbers_bytes number_bytes groups words_of on_first
 list_fine = refl
 
-pub refuse_all_lists : (r : Refusal) (after : List ℕ) → SaveListOutcome 1 a1 room (Refused r) after → ⊥
+pub refuse_all_lists : (r : Refusal) (after : List ℕ) → SaveListOutcome 1 a1 room (Err r) after → ⊥
 refuse_all_lists r after h =
-    let e = h.answer ∙ ap (saved_for (list_file 1 (words_of a1))) list_fine in let z : ◌≡◌ {A = ℕ} 0 1 = cc in omega arith
+    let e = h.answer ∙ ap (λ o. unless o (length (list_file 1 (words_of a1)))) list_fine in let z : ◌≡◌ {A = ℕ} 0 1 = cc in omega arith
 
-pub lists_untouched : (r : Saved) → SaveListOutcome 1 a1 room r room → ⊥
+pub lists_untouched : (r : Result ℕ Refusal) → SaveListOutcome 1 a1 room r room → ⊥
 lists_untouched r h =
     let e = h.cells ∙ ap (out_for (list_file 1 (words_of a1)) room) list_fine ∙ ap (λ f. out_for f room none) list_is in
     let z : ◌≡◌ {A = ℕ} 9 2 = ap (λ l. get_or l 0 0) e in omega arith
@@ -82,11 +82,11 @@ table_fine : save_table_refusal 1 1 bare 6 ≡ none
 unfolding save_table_refusal check_refusal is_alphabet is_lent cell_refusal faulty_cell first_place least is_faulty breaks_row breaks_cell is_in present greatest_met earlier rows_before row_of usual up_to cell inv short_refusal table_file cell_number numbers_bytes number_bytes groups
 table_fine = refl
 
-pub refuse_all_tables : (r : Refusal) (after : List ℕ) → SaveTableOutcome 1 1 bare room (Refused r) after → ⊥
+pub refuse_all_tables : (r : Refusal) (after : List ℕ) → SaveTableOutcome 1 1 bare room (Err r) after → ⊥
 refuse_all_tables r after h =
-    let e = h.answer ∙ ap (saved_for (table_file 1 1 bare)) table_fine in let z : ◌≡◌ {A = ℕ} 0 1 = cc in omega arith
+    let e = h.answer ∙ ap (λ o. unless o (length (table_file 1 1 bare))) table_fine in let z : ◌≡◌ {A = ℕ} 0 1 = cc in omega arith
 
-pub tables_untouched : (r : Saved) → SaveTableOutcome 1 1 bare room r room → ⊥
+pub tables_untouched : (r : Result ℕ Refusal) → SaveTableOutcome 1 1 bare room r room → ⊥
 tables_untouched r h =
     let e = h.cells ∙ ap (out_for (table_file 1 1 bare) room) table_fine ∙ ap (λ f. out_for f room none) table_is in
     let z : ◌≡◌ {A = ℕ} 9 1 = ap (λ l. get_or l 0 0) e in omega arith

@@ -1,14 +1,16 @@
 -- A run of numbers, sized and written one after the other, on plain values.
 --   numbers_append, numbers_few                 : the bytes of two runs; at most five a number
---   Sizing, sized_first, sized_turn, sized_done : the size so far and the bytes of the rest are the size of the run
+--   mapped_next, mapped_end                     : the numbers of what is walked, from place i on
+--   Sizing, sized_low, sized_turn, sized_done   : the size so far and the bytes of the rest are the size of the run
 --   Run, run_first, run_turn, run_done          : writing the rest from p on leaves what writing the run from `at` on does
 --   front_room, back_room, both_written         : some bytes, then others behind them
 -- Assumes nothing.
 use mathlib.Core.Path.{◌≡◌, refl, sym, ◌∙◌, ap, subst}
-use mathlib.Core.List.{List, [], ◌∷◌, ◌++◌, append_assoc}
-use Prim.Native.Nat.{ℕ, ◌+◌, ◌*◌, ◌≤◌}
+use mathlib.Core.List.{List, [], ◌∷◌, ◌++◌, map, append_assoc}
+use Prim.Native.Nat.{ℕ, ◌+◌, ◌*◌, ◌≤◌, ◌<◌}
 use native.Mathlib.Omega.{arith}
-use lib.ListN.{length, length-append}
+use lib.ListN.{length, get_or, drop, length-append}
+use Rattle.std.proofs.lemmas.List.{length-map, get_or-map, drop_more, drop_all}
 use Rattle.theory.specs.Files.{number_bytes, numbers_bytes}
 use Rattle.numbers.specs.Splices.{spliced, WrittenAt}
 use Rattle.numbers.proofs.NumberLaws.{number_fits}
@@ -35,13 +37,21 @@ pub numbers_few : (xs : List ℕ) → length (numbers_bytes xs) ≤ 5 * length x
 numbers_few [] = omega (arith, numbers_none)
 numbers_few (x ∷ xs) = omega (arith, numbers_more x xs, number_fits x, numbers_few xs)
 
+-- ── What is walked ──
+
+module _ (f : ℕ → ℕ) (t : List ℕ) (i : ℕ) where
+  pub mapped_next : {x : ℕ} → i < length t → x ≡ f (get_or t i 0) → drop i (map f t) ≡ x ∷ drop (i + 1) (map f t)
+  mapped_next h e =
+      drop_more (map f t) i 0 (simp length-map h)
+      ∙ ap (λ y. y ∷ drop (i + 1) (map f t)) (get_or-map f t i 0 0 h ∙ sym e)
+
+  pub mapped_end : length t ≤ i → drop i (map f t) ≡ []
+  mapped_end h = drop_all i (map f t) (simp length-map h)
+
 -- ── The size ──
 
 pub record Sizing (xs rest : List ℕ) (size : ℕ) : Type 0 where
   pub counted : size + length (numbers_bytes rest) ≡ length (numbers_bytes xs)
-
-pub sized_first : (xs : List ℕ) → Sizing xs xs 0
-sized_first xs = record { counted = omega arith }
 
 module _ {xs rest : List ℕ} {size : ℕ} (h : Sizing xs rest size) where
   module _ {x k : ℕ} {behind : List ℕ} (e : rest ≡ x ∷ behind) (is : k ≡ length (number_bytes x)) where
@@ -111,10 +121,6 @@ module _ {xs rest : List ℕ} {at : ℕ} {old out : List ℕ} {p : ℕ} (h : Run
         next = omega (arith, h.place, ap (λ l. length (numbers_bytes l)) e, numbers_none);
         cells = sym (spliced_none p out) ∙ ap (λ l. spliced p (numbers_bytes l) out) (sym e) ∙ h.cells;
       }
-
-  -- nothing is left to write, at a place that is known
-  pub run_at : {q : ℕ} → p ≡ q → Run xs rest at old out q
-  run_at {q} e = record { place = omega (arith, h.place, e); room = h.room; same = h.same; cells = ap (λ k. spliced k (numbers_bytes rest) out) (sym e) ∙ h.cells }
 
 -- from the first place on
 pub run_start : (xs out : List ℕ) → length (numbers_bytes xs) ≤ length out → Run xs xs 0 out out 0

@@ -11,6 +11,7 @@ use native.Mathlib.Decide.{ℕ_discrete}
 use native.Mathlib.Omega.{arith}
 use lib.ListN.{length, get_or, take, drop}
 use lib.Seq.{length-take-le}
+use Rattle.std.proofs.lemmas.List.{length-map}
 use borrow.Author.Tests.{eq-eqb, ne_eqb}
 use Rattle.theory.specs.Files.{groups, number_bytes, numbers_bytes, cell_number, table_file}
 use Rattle.theory.specs.Tables.{absent}
@@ -56,10 +57,6 @@ cells_fit (suc k) (x ∷ t) h = (
   cells_fit k t h.1,
 )
 
-map-length : (t : List ℕ) → length (map cell_number t) ≡ length t
-map-length [] = refl
-map-length (x ∷ t) = ap suc (map-length t)
-
 -- ── The file ──
 
 -- tables of one size
@@ -68,7 +65,7 @@ cells_one : (k l : ℕ) (t s : List ℕ) → Cells32 t → Cells32 s → k ≤ l
 cells_one k l t s ct cs a b e f =
     numbers_cells (take k t) (take l s)
     (numbers_one (map cell_number (take k t)) (map cell_number (take l s)) (cells_fit k t ct) (cells_fit l s cs)
-    (map-length (take k t) ∙ length-take-le k t a ∙ e ∙ sym (length-take-le l s b) ∙ sym (map-length (take l s))) f)
+    (length-map (take k t) cell_number ∙ length-take-le k t a ∙ e ∙ sym (length-take-le l s b) ∙ sym (length-map (take l s) cell_number)) f)
 
 pub table_file_one : (n N m M : ℕ) (t s : List ℕ) → Cells32 t → Cells32 s → check_refusal n N t ≡ none → check_refusal m M s ≡ none
     → table_file n N t ≡ table_file m M s → (n ≡ m) × (N ≡ M) × (take (N * (2 * n)) t ≡ take (M * (2 * m)) s)

@@ -1,25 +1,24 @@
 -- The numbers of a list's words (theory's `word_numbers`), and the turns of their walks on plain values.
 --   letter_fits                                : a letter's number is at most 52, so it takes one byte
---   letters_next, letters_end                  : the letters of a word from letter i on
+--   read_taken, letters_next, letters_end      : the letters of a word from letter i on
 --   length_room, letters_room, word_made       : a word's length and its letters, written
 --   words_behind, words_over                   : the numbers of the words from place `at` on
 --   words_sized, words_low, word_room, words_run : the turns of `words_size` and `write_words`
 -- Assumes nothing.
-use mathlib.Core.Path.{◌≡◌, refl, sym, ◌∙◌, ap}
+use mathlib.Core.Path.{◌≡◌, refl, sym, ◌∙◌, ap, subst}
 use mathlib.Core.Logic.{by_cases}
 use mathlib.Core.Bool.{Bool, true, false, cond}
 use mathlib.Core.List.{List, [], ◌∷◌, ◌++◌, map}
 use Prim.Native.Nat.{ℕ, ◌+◌, ◌-◌, ◌*◌, ◌≤◌, ◌<◌}
 use native.Mathlib.Decide.{ℕ_discrete}
-use native.Mathlib.Numerals.{add-one}
 use native.Mathlib.Omega.{arith}
 use lib.ListN.{length, get_or, take, drop, length-append, length-drop, drop_of_length-le}
-use lib.Seq.{drop-cons, length-take-le}
+use lib.Seq.{length-take-le}
 use borrow.Author.Tests.{eq-eqb, ne_eqb}
 use Rattle.theory.specs.Files.{number_limit, number_bytes, numbers_bytes, word_numbers}
 use Rattle.theory.specs.Letters.{letter_bytes, place_in, letter_of, word_length, first_word, words_of}
 use Rattle.theory.specs.Refusals.{text_limit, is_unended}
-use Rattle.theory.proofs.TextLaws.{word_length_le, length-first_word, first_word_at, words_count}
+use Rattle.theory.proofs.TextLaws.{word_length_le, length-first_word, words_count}
 use Rattle.theory.proofs.StartLaws.{written_length, written_letters}
 use Rattle.lists.specs.Counts.{next_start}
 use Rattle.lists.proofs.CountTurn.{rest_of}
@@ -33,6 +32,8 @@ use Rattle.saves.proofs.RunLaws.{
   numbers_more,
   numbers_none,
   numbers_few,
+  mapped_next,
+  mapped_end,
   Sizing,
   Run,
   runs_room,
@@ -69,17 +70,23 @@ word_sized part = letters_sized (take (word_length part) part) ∙ length-take-l
 
 -- ── One word ──
 
-pub letters_next : (part : List ℕ) (i : ℕ) {y read : ℕ} → read ≡ word_length part → i < read → y ≡ letter_of (get_or part i 0)
-    → drop i (first_word part) ≡ y ∷ drop (i + 1) (first_word part)
-letters_next part i {y} {read} is h e =
-    drop-cons (first_word part) i 0 (omega (arith, is, h, length-first_word part))
-    ∙ ap (λ j. get_or (first_word part) i 0 ∷ drop j (first_word part)) (sym (add-one i))
-    ∙ ap (λ z. z ∷ drop (i + 1) (first_word part)) (first_word_at part i (omega (arith, is, h)) ∙ sym e)
-
-pub letters_end : (part : List ℕ) (i : ℕ) {read : ℕ} → read ≡ word_length part → read ≤ i → drop i (first_word part) ≡ []
-letters_end part i is h = drop_of_length-le (first_word part) {i = i} (omega (arith, is, h, length-first_word part))
-
 module _ (part : List ℕ) {read : ℕ} (is : read ≡ word_length part) where
+  -- the letters that are walked are the word's
+  letters_taken : map letter_of (take read part) ≡ first_word part
+  unfolding first_word
+  letters_taken = ap (λ k. map letter_of (take k part)) is
+
+  pub read_taken : read ≡ length (take read part)
+  read_taken = sym (length-take-le read part (omega (arith, is, word_length_le part)))
+
+  module _ (i : ℕ) where
+    pub letters_next : {y : ℕ} → i < length (take read part) → y ≡ letter_of (get_or (take read part) i 0)
+        → drop i (first_word part) ≡ y ∷ drop (i + 1) (first_word part)
+    letters_next {y} h e = subst (λ w. drop i w ≡ y ∷ drop (i + 1) w) letters_taken (mapped_next letter_of (take read part) i h e)
+
+    pub letters_end : length (take read part) ≤ i → drop i (first_word part) ≡ []
+    letters_end h = subst (λ w. drop i w ≡ []) letters_taken (mapped_end letter_of (take read part) i h)
+
   run_starts : word_run (first_word part) ≡ read ∷ first_word part
   unfolding word_run
   run_starts = ap (λ k. k ∷ first_word part) (length-first_word part ∙ sym is)

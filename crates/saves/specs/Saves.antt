@@ -6,28 +6,24 @@
 -- 9 is placed at the length of the file. Assumes nothing.
 use Rattle.std.specs.Prelude.{◌≡◌, true, List, ◌++◌, ℕ, ltb, length, drop}
 use Rattle.std.proofs.Math.Option.{Option, none, some}
+use Rattle.std.specs.declared.result.Result.{Result}
 use Rattle.theory.specs.Files.{table_file, list_file}
 use Rattle.theory.specs.Letters.{words_of}
 use Rattle.theory.specs.Refusals.{Refusal as FirstCause, CauseShort, Only, Join, or_else, refused_if, TextCause, text_refusal}
 use Rattle.theory.specs.TableRefusals.{CheckCause, check_refusal}
-use Rattle.refusals.specs.Given.{given}
-use Rattle.saves.specs.declared.Saved.{Saved}
-use Rattle.saves.specs.declared.Saved.TheVariants.{Refused, Written}
+use Rattle.refusals.specs.declared.Refusal.{Refusal}
+use Rattle.refusals.specs.Given.{unless}
 
 -- the output is too short for a file
 unfoldable pub short_refusal : List ℕ → ℕ → Option FirstCause
 short_refusal file room = refused_if (ltb room (length file)) 9 (length file)
 
-abbrev pub saved_for : List ℕ → Option FirstCause → Saved
-saved_for file none = Written (length file)
-saved_for file (some r) = Refused (given r)
-
 abbrev pub out_for : List ℕ → List ℕ → Option FirstCause → List ℕ
 out_for file out none = file ++ drop (length file) out
 out_for file out (some r) = out
 
-pub record SaveOutcome (file : List ℕ) (refusal : Option FirstCause) (out : List ℕ) (r : Saved) (after : List ℕ) : Type 0 where
-  pub answer : r ≡ saved_for file refusal
+pub record SaveOutcome (file : List ℕ) (refusal : Option FirstCause) (out : List ℕ) (r : Result ℕ Refusal) (after : List ℕ) : Type 0 where
+  pub answer : r ≡ unless refusal (length file)
   pub cells : after ≡ out_for file out refusal
 
 -- ── Tables ──
@@ -38,7 +34,7 @@ SaveTableCause n N t room = Join (CheckCause n N t) (Only 9 (CauseShort (length 
 unfoldable pub save_table_refusal : ℕ → ℕ → List ℕ → ℕ → Option FirstCause
 save_table_refusal n N t room = or_else (check_refusal n N t) (short_refusal (table_file n N t) room)
 
-abbrev pub SaveTableOutcome : ℕ → ℕ → List ℕ → List ℕ → Saved → List ℕ → Type 0
+abbrev pub SaveTableOutcome : ℕ → ℕ → List ℕ → List ℕ → Result ℕ Refusal → List ℕ → Type 0
 SaveTableOutcome n N t out r after = SaveOutcome (table_file n N t) (save_table_refusal n N t (length out)) out r after
 
 -- ── Lists ──
@@ -49,5 +45,5 @@ SaveListCause n list room = Join (TextCause n true list) (Only 9 (CauseShort (le
 unfoldable pub save_list_refusal : ℕ → List ℕ → ℕ → Option FirstCause
 save_list_refusal n list room = or_else (text_refusal n true list) (short_refusal (list_file n (words_of list)) room)
 
-abbrev pub SaveListOutcome : ℕ → List ℕ → List ℕ → Saved → List ℕ → Type 0
+abbrev pub SaveListOutcome : ℕ → List ℕ → List ℕ → Result ℕ Refusal → List ℕ → Type 0
 SaveListOutcome n list out r after = SaveOutcome (list_file n (words_of list)) (save_list_refusal n list (length out)) out r after

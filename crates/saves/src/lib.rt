@@ -1,29 +1,21 @@
 // Saving: a canonical table as a file of kind 1, a list as a file of kind 2.
 #![tactic(auto)]
 
-ghost use Rattle.std.specs.Prelude.{◌≡◌, true, [], ◌∷◌, ◌+◌, ◌≤◌, length};
+ghost use Rattle.std.specs.Prelude.{◌≡◌, true, [], ◌∷◌, map, ◌+◌, ◌≤◌, length};
 ghost use Rattle.std.proofs.Math.Option.{none};
 ghost use Rattle.theory.specs.Files.{cell_number, numbers_bytes, number_limit, table_file, word_numbers, list_file};
 ghost use Rattle.theory.specs.Letters.{word_length, first_word, words_of};
 ghost use Rattle.theory.specs.Refusals.{text_limit, text_refusal};
 ghost use Rattle.theory.specs.TableRefusals.{check_refusal};
+ghost use Rattle.numbers.specs.Kinds.{kind_number};
 ghost use Rattle.numbers.specs.Splices.{WrittenAt};
-ghost use Rattle.saves.specs.Runs.{cell_numbers, Savable, word_run, SavableList};
+ghost use Rattle.saves.specs.Runs.{Savable, word_run, SavableList};
 ghost use Rattle.saves.specs.Saves.{SaveTableOutcome, SaveListOutcome};
 
-use lists::Scanned;
-use refusals::Refusal;
-use tables::{Checked, Subgroup};
-
-// What saving says: a refusal, or how many bytes are written.
-#[derive(Clone, Copy)]
-pub enum Saved {
-    Refused(Refusal),
-    Written(u64),
-}
-
-// The absent mark.
-const ABSENT: u32 = 4294967295;
+use cells::ABSENT;
+use numbers::Kind;
+use refusals::{Cause, Refusal};
+use tables::Subgroup;
 
 // The number of a cell: 0 for absent, otherwise the point + 1.
 fn number_of(x: u32) -> u64
@@ -32,51 +24,47 @@ fn number_of(x: u32) -> u64
     if x == ABSENT {
         return 0;
     }
-    x as u64 + 1
+    u64::from(x) + 1
 }
 
-// The bytes that the first `count` cells take.
-fn cells_size(table: &[u32], count: usize) -> usize
-    requires { (count ≤ length table.now) × (count ≤ 54526004) }
-    ensures size { result ≡ length (numbers_bytes (cell_numbers count table.now)) }
+// The bytes that cells take.
+fn cells_size(cells: &[u32]) -> usize
+    requires { length cells.now ≤ 54526004 }
+    ensures size { result ≡ length (numbers_bytes (map cell_number cells.now)) }
 {
     let mut size: usize = 0;
-    let mut i: usize = 0;
-    while i < count {
-        size += numbers::number_size(number_of(table[i]));
-        i += 1;
+    for &x in cells {
+        size += numbers::number_size(number_of(x));
     }
     size
 }
 
-// Writes the numbers of the first `count` cells from place `at` on, and answers the place behind them.
-fn write_cells(table: &[u32], count: usize, out: &mut [u8], at: usize) -> usize
-    requires { (count ≤ length table.now) × (at + length (numbers_bytes (cell_numbers count table.now)) ≤ length out.old) }
-    ensures written { WrittenAt at (numbers_bytes (cell_numbers count table.now)) out.old result out.new }
+// Writes the numbers of cells from place `at` on, and answers the place behind them.
+fn write_cells(cells: &[u32], out: &mut [u8], at: usize) -> usize
+    requires { at + length (numbers_bytes (map cell_number cells.now)) ≤ length out.old }
+    ensures written { WrittenAt at (numbers_bytes (map cell_number cells.now)) out.old result out.new }
 {
     let mut p = at;
-    let mut i: usize = 0;
-    while i < count {
-        p = numbers::write_number(out, p, number_of(table[i]));
-        i += 1;
+    for &x in cells {
+        p = numbers::write_number(out, p, number_of(x));
     }
     p
 }
 
 // The bytes that the kind, n and a count take: the first two take one each.
-fn head_size(kind: u64, n: u64, count: u64) -> usize
-    requires { (kind ≤ 127) × (n ≤ 127) × (count ≤ number_limit) }
-    ensures size { result ≡ length (numbers_bytes (kind ∷ n ∷ count ∷ [])) }
+fn head_size(kind: Kind, n: u64, count: u64) -> usize
+    requires { (n ≤ 127) × (count ≤ number_limit) }
+    ensures size { result ≡ length (numbers_bytes (kind_number kind ∷ n ∷ count ∷ [])) }
 {
     2 + numbers::number_size(count)
 }
 
 // Writes the kind, n and a count, and answers the place behind them.
-fn write_head(out: &mut [u8], kind: u64, n: u64, count: u64) -> usize
-    requires { (kind ≤ 127) × (n ≤ 127) × (count ≤ number_limit) × (length (numbers_bytes (kind ∷ n ∷ count ∷ [])) ≤ length out.old) }
-    ensures written { WrittenAt 0 (numbers_bytes (kind ∷ n ∷ count ∷ [])) out.old result out.new }
+fn write_head(out: &mut [u8], kind: Kind, n: u64, count: u64) -> usize
+    requires { (n ≤ 127) × (count ≤ number_limit) × (length (numbers_bytes (kind_number kind ∷ n ∷ count ∷ [])) ≤ length out.old) }
+    ensures written { WrittenAt 0 (numbers_bytes (kind_number kind ∷ n ∷ count ∷ [])) out.old result out.new }
 {
-    let first = numbers::write_number(out, 0, kind);
+    let first = numbers::write_number(out, 0, kind.number());
     let second = numbers::write_number(out, first, n);
     numbers::write_number(out, second, count)
 }
@@ -87,8 +75,8 @@ fn table_size(s: Subgroup, table: &[u32]) -> usize
     ensures size { result ≡ length (table_file s.n s.points table.now) }
 {
     let count = tables::cell_count(s);
-    let head = head_size(1, s.n, s.points);
-    head + cells_size(table, count)
+    let head = head_size(Kind::Table, s.n, s.points);
+    head + cells_size(&table[..count])
 }
 
 // Writes a table's file.
@@ -97,31 +85,26 @@ fn write_table(s: Subgroup, table: &[u32], out: &mut [u8]) -> usize
     ensures written { WrittenAt 0 (table_file s.n s.points table.now) out.old result out.new }
 {
     let count = tables::cell_count(s);
-    let at = write_head(out, 1, s.n, s.points);
-    write_cells(table, count, out, at)
+    let at = write_head(out, Kind::Table, s.n, s.points);
+    write_cells(&table[..count], out, at)
 }
 
 // Saves a canonical table, or refuses: 9. The length is known before anything is written.
-fn save_checked(s: Subgroup, table: &[u32], out: &mut [u8]) -> Saved
+fn save_checked(s: Subgroup, table: &[u32], out: &mut [u8]) -> Result<u64, Refusal>
     requires { check_refusal s.n s.points table.now ≡ none }
     ensures outcome { SaveTableOutcome s.n s.points table.now out.old result out.new }
 {
     let needed = table_size(s, table);
-    if out.len() < needed {
-        return Saved::Refused(refusals::refuse(9, needed as u64));
-    }
-    let end = write_table(s, table, out);
-    Saved::Written(end as u64)
+    refusals::check_room(Cause::Output, needed as u64, out.len() as u64)?;
+    Ok(write_table(s, table, out) as u64)
 }
 
 // Saves a table handed in as a file of kind 1, or refuses: 1, 6, 8, 9.
-pub fn save_table(s: Subgroup, table: &[u32], out: &mut [u8]) -> Saved
+pub fn save_table(s: Subgroup, table: &[u32], out: &mut [u8]) -> Result<u64, Refusal>
     ensures outcome { SaveTableOutcome s.n s.points table.now out.old result out.new }
 {
-    match tables::check(s, table) {
-        Checked::Refused(r) => Saved::Refused(r),
-        Checked::Counted(_) => save_checked(s, table, out),
-    }
+    tables::check(s, table)?;
+    save_checked(s, table, out)
 }
 
 // The bytes that the words of a list take: each its length's, and one for each letter.
@@ -145,10 +128,8 @@ fn write_letters(part: &[u8], read: usize, out: &mut [u8], at: usize) -> usize
     ensures written { WrittenAt at (numbers_bytes (first_word part.now)) out.old result out.new }
 {
     let mut p = at;
-    let mut i: usize = 0;
-    while i < read {
-        p = numbers::write_number(out, p, letters::letter_of(part[i]) as u64);
-        i += 1;
+    for &b in &part[..read] {
+        p = numbers::write_number(out, p, u64::from(letters::letter_of(b)));
     }
     p
 }
@@ -183,7 +164,7 @@ fn list_size(n: u64, list: &[u8]) -> usize
     ensures size { result ≡ length (list_file n (words_of list.now)) }
 {
     let counts = lists::count(list);
-    let head = head_size(2, n, counts.words as u64);
+    let head = head_size(Kind::List, n, counts.words as u64);
     head + words_size(list)
 }
 
@@ -193,29 +174,24 @@ fn write_list(n: u64, list: &[u8], out: &mut [u8]) -> usize
     ensures written { WrittenAt 0 (list_file n (words_of list.now)) out.old result out.new }
 {
     let counts = lists::count(list);
-    let at = write_head(out, 2, n, counts.words as u64);
+    let at = write_head(out, Kind::List, n, counts.words as u64);
     write_words(list, out, at)
 }
 
 // Saves a list that no refusal meets, or refuses: 9. The length is known before anything is written.
-fn save_fine(n: u64, list: &[u8], out: &mut [u8]) -> Saved
+fn save_fine(n: u64, list: &[u8], out: &mut [u8]) -> Result<u64, Refusal>
     requires { text_refusal n true list.now ≡ none }
     ensures outcome { SaveListOutcome n list.now out.old result out.new }
 {
     let needed = list_size(n, list);
-    if out.len() < needed {
-        return Saved::Refused(refusals::refuse(9, needed as u64));
-    }
-    let end = write_list(n, list, out);
-    Saved::Written(end as u64)
+    refusals::check_room(Cause::Output, needed as u64, out.len() as u64)?;
+    Ok(write_list(n, list, out) as u64)
 }
 
 // Saves a list text as a file of kind 2, or refuses: 1, 2, 3 or 4, 5, 9.
-pub fn save_list(n: u64, list: &[u8], out: &mut [u8]) -> Saved
+pub fn save_list(n: u64, list: &[u8], out: &mut [u8]) -> Result<u64, Refusal>
     ensures outcome { SaveListOutcome n list.now out.old result out.new }
 {
-    match lists::scan(n, list, true) {
-        Scanned::Refused(r) => Saved::Refused(r),
-        Scanned::Fine => save_fine(n, list, out),
-    }
+    lists::scan(n, list, true)?;
+    save_fine(n, list, out)
 }

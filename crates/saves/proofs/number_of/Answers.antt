@@ -8,4 +8,4 @@ pub returns-then-x-eq-ABSENT : goal.returns-then-x-eq-ABSENT
 returns-then-x-eq-ABSENT c = record { number = number_absent _ c.if-x-eq-ABSENT.true }
 
 pub returns : goal.returns
-returns c = record { number = number_point _ c.if-x-eq-ABSENT.false (omega arith) }
+returns c = record { number = rw c.from.ensures (number_point _ c.if-x-eq-ABSENT.false (omega arith)) }

@@ -1,18 +1,20 @@
 -- `save_checked` meets its contract: 9, or the file (`SaveLaws`).
 -- Assumes nothing.
-use Rattle.saves.proofs.SaveLaws.{table_short, table_written}
+use Rattle.std.proofs.lemmas.Result.{err_from_is_err_and}
 use Rattle.saves.proofs.CellLaws.{savable}
-use native.Mathlib.Omega.{arith}
+use Rattle.saves.proofs.SaveLaws.{table_short, table_room, table_written}
 use Rattle.saves.proofs.save_checked.Goals as goal
 
 pub table_size-needed-requires : goal.table_size-needed-requires
 table_size-needed-requires c = savable _ _ _ c.requires
 
-pub returns-then-out-needed : goal.returns-then-out-needed
-returns-then-out-needed c = record { outcome = table_short _ _ _ _ c.requires c.table_size-needed.ensures.size c.if-out-needed.true c.refuse.ensures.made }
+pub returns-in_err-check_room : goal.returns-in_err-check_room
+returns-in_err-check_room c =
+    let p = err_from_is_err_and c.from_residual.result c.from_residual.ensures.1 in
+    record { outcome = rw (p.1, p.2) (table_short _ _ _ _ c.requires c.table_size-needed.ensures.size c.in_err-check_room.ensures.checked) }
 
-pub write_table-end-requires : goal.write_table-end-requires
-write_table-end-requires c = (savable _ _ _ c.requires, omega (arith, c.table_size-needed.ensures.size, c.if-out-needed.false))
+pub write_table-requires : goal.write_table-requires
+write_table-requires c = (savable _ _ _ c.requires, table_room _ _ _ _ c.requires c.table_size-needed.ensures.size c.in_ok-check_room.ensures.checked)
 
 pub returns : goal.returns
-returns c = record { outcome = table_written _ _ _ _ c.requires c.table_size-needed.ensures.size c.if-out-needed.false c.write_table-end.ensures.written }
+returns c = record { outcome = table_written _ _ _ _ c.requires c.table_size-needed.ensures.size c.in_ok-check_room.ensures.checked c.write_table.ensures.written }
