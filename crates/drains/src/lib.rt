@@ -17,10 +17,8 @@ fn clear_row(table: &mut [u32], work: &mut [u32], room: Room, count: usize, v: u
 {
     let w = 2 * (room.n as u32);
     let mut waiting = count;
-    let mut y: u32 = 0;
-    while y < w {
+    for y in 0..w {
         waiting = links::move_edge(table, work, room, waiting, v, u, y);
-        y += 1;
     }
     waiting
 }
@@ -43,6 +41,7 @@ pub fn drain(table: &mut [u32], work: &mut [u32], room: Room, count: usize)
     ensures drained { After room (drained (usual room.n)) (drained_work room.rows (usual room.n)) table.old work.old count table.new work.new 0 }
 {
     let mut waiting = count;
+    // No `for` fits: a turn may add pending points.
     while 0 < waiting {
         waiting = turn(table, work, room, waiting);
     }

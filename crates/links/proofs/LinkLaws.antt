@@ -1,15 +1,15 @@
 -- Edges in lent cells on plain values: what each operation's parts ask and leave.
---   row_fits, cell_there : where a cell of the room stands
---   from-in, to-in, holds-in : cells of the room, also once the table has changed
+--   cell_there, put_here : where a cell of the room stands
+--   other_in, back_in, made_in, holds_made : cells of the room, also once the table has changed, and what they hold
 --   work_free .. work_edge : the work cells, by the cases of the model
 --   link_free, link_taken, link_back : the three outcomes of `link`
---   edge_of, move_usable, move_ends, move_left : the parts of `move_edge`
+--   move_usable, move_ends, move_left, move_none : the parts of `move_edge`
 -- Assumes nothing.
 use mathlib.Core.Path.{◌≡◌, sym, ◌∙◌, ap, subst}
 use mathlib.Core.Logic.{by_cases}
 use mathlib.Core.Bool.{cond, ◌&&◌}
 use mathlib.Core.List.{List}
-use Prim.Native.Nat.{ℕ, ◌+◌, ◌*◌, ◌≤◌, ◌<◌}
+use Prim.Native.Nat.{ℕ, ◌+◌, ◌*◌, ◌<◌}
 use native.Mathlib.Decide.{ℕ_discrete}
 use native.Mathlib.Omega.{arith}
 use lib.Dec.{eqb}
@@ -17,7 +17,7 @@ use lib.ListN.{length, get_or, set}
 use borrow.Author.Tests.{eq-eqb, ne_eqb}
 use Rattle.theory.specs.Words.{inv}
 use Rattle.theory.specs.Tables.{absent, Cells, Leads, cell}
-use Rattle.theory.proofs.TableLaws.{row_below, cell_here}
+use Rattle.theory.proofs.TableLaws.{cell_here}
 use Rattle.engine.specs.Cells.{put, linked, unlinked}
 use Rattle.engine.specs.Engine.{State, with_cells, joined, moved, far_end}
 use Rattle.engine.specs.Work.{Holds}
@@ -30,12 +30,9 @@ use Rattle.rooms.specs.Uniting.{United}
 use Rattle.rooms.specs.WorkCells.{united_work, joined_work, moved_work}
 use Rattle.rooms.specs.Rooms.{state_in, Usable, After}
 use Rattle.rooms.proofs.RoomLaws.{left_first, left_cells, left_united, left_as, left_then, left_lent}
-use Rattle.links.specs.Links.{InTable, Edge, Ends}
+use Rattle.links.specs.Links.{InTable, Ends}
 
 module _ {r : Room} {t : List ℕ} {v y : ℕ} (h : InTable r t v y) where
-  pub row_fits : v * (2 * r.n) + 2 * r.n ≤ length t
-  row_fits = omega (arith, row_below r.rows (2 * r.n) v h.row, h.lent)
-
   pub cell_there : get_or t (v * (2 * r.n) + y) 0 ≡ cell r.n r.rows t v y
   cell_there = cell_here r.n r.rows t v y h.row h.letter h.lent
 
@@ -49,10 +46,10 @@ module _ {r : Room} {t : List ℕ} {v y : ℕ} (h : InTable r t v y) where
   pub other_in : {after : List ℕ} → length after ≡ length t → (u z : ℕ) → u < r.rows → z < 2 * r.n → InTable r after u z
   other_in e u z hu hz = record { most = h.most; row = hu; letter = hz; lent = omega (arith, e, h.lent) }
 
-  -- the inverse of a letter is a letter
-  pub letter_back : inv y < 2 * r.n
+  -- and by the inverse of the letter, which is a letter
+  pub back_in : {after : List ℕ} {u z : ℕ} → length after ≡ length t → u < r.rows → z ≡ inv y → InTable r after u z
   unfolding inv
-  letter_back = omega (arith, h.letter)
+  back_in {u = u} {z = z} e hu d = other_in e u z hu (omega (arith, d, h.letter))
 
 -- stores one after another
 pub put_then : {n R : ℕ} {old mid after : List ℕ} {c : Cells} (v y x : ℕ) → Holds n R old c mid
@@ -118,9 +115,6 @@ module _ {r : Room} {table work : List ℕ} {count : ℕ} (h : Usable r table wo
     abbrev s : State
     s = state_in r table work count
 
-    pub back_letter : inv y < 2 * r.n
-    back_letter = letter_back (made_in a y k.from k.letter)
-
     abbrev Joins : List ℕ → List ℕ → ℕ → Type 0
     Joins table' work' m = After r (λ t. joined t a y b) (λ t w. joined_work r.rows t w a y b) table work count table' work' m
 
@@ -163,10 +157,6 @@ module _ {r : Room} {table work : List ℕ} {count : ℕ} (h : Usable r table wo
 
   abbrev Moves : List ℕ → List ℕ → ℕ → Type 0
   Moves table' work' m = After r (λ t. moved t v u y) (λ t w. moved_work r.rows t w v u y) table work count table' work' m
-
-  pub edge_of : {q : ℕ} → q ≡ cell r.n r.rows table v y → (q ≡ absent → ⊥) → Edge r table v y
-  edge_of {q} e n =
-      record { at = made_in h v y k.from k.letter; far = omega (arith, e, holds_made h v y q e n, h.lent.inside) }
 
   module _ {q : ℕ} (e : q ≡ cell r.n r.rows table v y) (n : q ≡ absent → ⊥) {after : List ℕ}
       (g : Holds r.n r.rows table (unlinked (cell r.n r.rows table) v y) after) where

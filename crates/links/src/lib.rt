@@ -10,10 +10,8 @@ ghost use Rattle.rooms.specs.Rooms.{Usable, After};
 ghost use Rattle.rooms.specs.WorkCells.{joined_work, moved_work};
 ghost use Rattle.links.specs.Links.{InTable, Edge, Ends};
 
+use cells::ABSENT;
 use rooms::Room;
-
-// The absent mark.
-const ABSENT: u32 = 4294967295;
 
 // The cell of letter y at point v.
 pub fn cell_at(table: &[u32], room: Room, v: u32, y: u32) -> u32

@@ -2,7 +2,7 @@
 --   named_step : a step from a table is one from the naming that it holds
 --   Keeps ys R b m <-> the naming m is ready, with b points met or more; scanned_then : so is a table that holds it
 --   cell_none, cell_met, cell_new : the outcomes of `number_cell`; cell_asks : what its exchange asks
---   Row, row_first, row_asks, row_turn, row_done : the turns of a row
+--   Row, row_first, row_scanned, row_low, row_turn, row_done : the turns of a row
 --   Head, head_first, head_asks, head_turn, head_done : the rows in order
 -- Assumes nothing.
 use mathlib.Core.Path.{◌≡◌, refl, sym, ◌∙◌, ap, subst}
@@ -116,36 +116,35 @@ module _ {n R : ℕ} {t : List ℕ} {met : ℕ} (s : Scanned n R t met) where
 -- ── The turns of a row ──
 
 pub record Row (n R : ℕ) (old : List ℕ) (v met i found : ℕ) (t : List ℕ) : Type 0 where
-  pub place : i ≤ 2 * n
   pub named : NamedIn n R old (named_to (usual n) (naming_of n R old met) v i) found t
 
 pub row_first : {n R : ℕ} {old : List ℕ} {v met : ℕ} → Row n R old v met 0 met old
 unfolding named_to
-row_first {n} {R} {old} {v} {met} = record { place = omega arith; named = named_first n R old met }
+row_first {n} {R} {old} {v} {met} = record { named = named_first n R old met }
 
 module _ {n R : ℕ} {old : List ℕ} {v met i found : ℕ} {t : List ℕ} (s : Scanned n R old met) (h : Row n R old v met i found t) where
   row_kept : Keeps (usual n) R met (named_to (usual n) (naming_of n R old met) v i)
   row_kept = row_keeps s.base (scanned_keeps s) v i
 
-  pub row_asks : v < met → Scanned n R t found × (v < found)
-  row_asks g = (scanned_then s row_kept h.named, omega (arith, row_kept.low, h.named.points))
+  pub row_scanned : Scanned n R t found
+  row_scanned = scanned_then s row_kept h.named
 
-  pub row_turn : {z r : ℕ} {after : List ℕ} → i < 2 * n → z ≡ get_or (usual n) i 0
+  pub row_low : met ≤ found
+  row_low = omega (arith, row_kept.low, h.named.points)
+
+  pub row_turn : {z r : ℕ} {after : List ℕ} → z ≡ get_or (usual n) i 0
       → NamedIn n R t (named_at (naming_of n R t found) v z) r after → Row n R old v met (i + 1) r after
   unfolding named_to
-  row_turn {z} {r} {after} l e k =
+  row_turn {z} {r} {after} e k =
       record {
-        place = omega arith;
         named =
             rw (add-one i)
             (named_step h.named (λ m. named_at m v (get_or (usual n) i 0))
             (subst (λ y. NamedIn n R t (named_at (naming_of n R t found) v y) r after) e k));
       }
 
-  pub row_done : 2 * n ≤ i → NamedIn n R old (named_to (usual n) (naming_of n R old met) v (length (usual n))) found t
-  row_done l =
-      let e : i ≡ length (usual n) = omega (arith, h.place, length_usual n) in
-      subst (λ j. NamedIn n R old (named_to (usual n) (naming_of n R old met) v j) found t) e h.named
+  pub row_done : i ≡ 2 * n → NamedIn n R old (named_to (usual n) (naming_of n R old met) v (length (usual n))) found t
+  row_done e = subst (λ j. NamedIn n R old (named_to (usual n) (naming_of n R old met) v j) found t) (e ∙ sym (length_usual n)) h.named
 
 -- ── The rows in order ──
 

@@ -1,6 +1,6 @@
 -- Steps on lent cells (`specs/Steps`): where a cell stands, and one step after another.
 --   holds_path, holds_step : cells held are those of the table, so a step from there is one from what it holds
---   inside_then, roomed_then : a place stays inside, and the room a room, after a step; inside_back : the cell back from a point
+--   inside_then, roomed_then : a place stays inside, and the room a room, after a step
 --   cell_point : by the inverse law a cell is absent or a point of the room; point_as : so is a copy of one that is
 -- Assumes nothing.
 use mathlib.Core.Path.{◌≡◌, refl, sym, subst, fun_ext}
@@ -15,17 +15,13 @@ use Rattle.engine.specs.Work.{Holds}
 use Rattle.engine.proofs.HoldLaws.{holds_then}
 use Rattle.rooms.specs.declared.Room.{Room}
 use Rattle.links.specs.Links.{InTable}
-use Rattle.links.proofs.LinkLaws.{other_in, letter_back}
+use Rattle.links.proofs.LinkLaws.{other_in}
 use Rattle.numbering.specs.Numbered.{Inverse, Roomed}
 use Rattle.numbering.specs.Steps.{IsCell}
 
 -- ── Where a cell stands ──
 
 module _ {r : Room} {t : List ℕ} {v y : ℕ} (i : InTable r t v y) where
-  -- another point of the room, by the inverse of the letter
-  pub inside_back : {z : ℕ} (u : ℕ) → z ≡ inv y → u < r.rows → InTable r t u z
-  inside_back {z} u e h = other_in i refl u z h (subst (λ l. l < 2 * r.n) (sym e) (letter_back i))
-
   pub inside_then : {c : Cells} {mid : List ℕ} → Holds r.n r.rows t c mid → InTable r mid v y
   inside_then h = other_in i h.same v y i.row i.letter
 

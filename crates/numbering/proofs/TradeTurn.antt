@@ -1,6 +1,6 @@
 -- An exchange on plain values (engine, `TradeLaws`).
 --   mend_none, mend_first, mend_second, mend_far : the outcomes of `mend`
---   ends_traded_lem, traded : those of `trade_ends` and of `trade`
+--   traded : those of `trade`
 --   Head n R old k p y t <-> the turns of the letters below y are done
 --   head_first, head_asks, head_turn, head_done : so it is at first and after a turn; what a turn asks; the end
 -- Assumes nothing.
@@ -13,7 +13,7 @@ use borrow.Author.Tests.{eq-eqb, ne_eqb, le-ltb}
 use Rattle.theory.specs.Words.{inv}
 use Rattle.theory.specs.Tables.{absent, Cells, cell}
 use Rattle.theory.proofs.TableLaws.{length_usual, get_or_usual, cell_bounded}
-use Rattle.engine.specs.Cells.{put, transposed, exchanged, trading, mended, traded_by, traded_at}
+use Rattle.engine.specs.Cells.{put, exchanged, trading, mended, traded_by, traded_at}
 use Rattle.engine.specs.Work.{Holds}
 use Rattle.engine.proofs.HoldLaws.{holds_first, holds_as}
 use Rattle.engine.proofs.TradeLaws.{trading_start, trading_turn, trading_end}
@@ -46,14 +46,6 @@ module _ {n R : ℕ} {t : List ℕ} (k p q y x : ℕ) where
 -- ── A turn ──
 
 module _ {n R : ℕ} {t mid after : List ℕ} (k p y a b : ℕ) where
-  -- two stores, of b and a under their new names
-  pub ends_traded_lem : {r s : ℕ} → r ≡ transposed k p b → Holds n R t (put (cell n R t) k y r) mid
-      → s ≡ transposed k p a → Holds n R mid (put (cell n R mid) p y s) after
-      → Holds n R t (ends_traded (cell n R t) k p y a b) after
-  ends_traded_lem e h d g =
-      holds_step (subst (λ x. Holds n R t (put (cell n R t) k y x) mid) e h) (λ c. put c p y (transposed k p a))
-      (subst (λ x. Holds n R mid (put (cell n R mid) p y x) after) d g)
-
   -- the ends traded, and then both far ends mended: that of a gets the name p, that of b the name k
   pub traded : {far : List ℕ} {x z : ℕ} → a ≡ cell n R t k y → b ≡ cell n R t p y
       → Holds n R t (ends_traded (cell n R t) k p y a b) mid → Holds n R mid (mended (cell n R mid) k p a y x) far
@@ -67,7 +59,6 @@ module _ {n R : ℕ} {t mid after : List ℕ} (k p y a b : ℕ) where
 -- ── The loop ──
 
 pub record Head (n R : ℕ) (old : List ℕ) (k p y : ℕ) (t : List ℕ) : Type 0 where
-  pub place : y ≤ 2 * n
   pub held : Holds n R old (trading (cell n R old) k p y) t
 
 -- before its turn a letter's cells in rows k and p are as they were
@@ -82,7 +73,7 @@ module _ (c : Cells) (k p i : ℕ) where
 
 pub head_first : {n R : ℕ} {old : List ℕ} {k p : ℕ} → Head n R old k p 0 old
 head_first {n} {R} {old} {k} {p} =
-    record { place = omega arith; held = holds_as (λ v z. sym (trading_start (cell n R old) k p v z)) (holds_first n R old) }
+    record { held = holds_as (λ v z. sym (trading_start (cell n R old) k p v z)) (holds_first n R old) }
 
 module _ {n R : ℕ} {old : List ℕ} {k p y : ℕ} {t : List ℕ} (r : Roomed n R old) (hk : k < R) (hp : p < R) (d : k ≡ p → ⊥)
     (h : Head n R old k p y t) where
@@ -101,10 +92,9 @@ module _ {n R : ℕ} {old : List ℕ} {k p y : ℕ} {t : List ℕ} (r : Roomed n
   np : p ≡ absent → ⊥
   np e = omega (arith, r.fits)
 
-  pub head_turn : {after : List ℕ} → y < 2 * n → Holds n R t (traded_at (cell n R t) k p y) after → Head n R old k p (y + 1) after
-  head_turn {after} l g =
+  pub head_turn : {after : List ℕ} → Holds n R t (traded_at (cell n R t) k p y) after → Head n R old k p (y + 1) after
+  head_turn g =
       record {
-        place = omega arith;
         held =
             rw (add-one y)
             (holds_as (trading_turn (cell n R old) k p nk np d r.inverse y) (holds_step h.held (λ c. traded_at c k p y) g));

@@ -11,10 +11,8 @@ ghost use Rattle.numbering.specs.Numbered.{Roomed, NumberedIn};
 ghost use Rattle.links.specs.Links.{InTable};
 ghost use Rattle.numbering.specs.Steps.{IsCell, ends_traded, Tradable, naming_of, Scanned, NamedIn};
 
+use cells::ABSENT;
 use rooms::Room;
-
-// The absent mark.
-const ABSENT: u32 = 4294967295;
 
 // The letter that is scanned at step i of a row.
 fn letter_at(n: usize, i: usize) -> usize
@@ -85,21 +83,13 @@ pub fn exchange(table: &mut [u32], n: usize, room: usize, k: u32, p: u32)
     if k == p {
         return;
     }
-    let w = 2 * n;
-    let mut y: usize = 0;
-    while y < w {
-        trade(
-            table,
-            Room {
-                n,
-                rows: room,
-                made: room,
-            },
-            k,
-            p,
-            y as u32,
-        );
-        y += 1;
+    let room = Room {
+        n,
+        rows: room,
+        made: room,
+    };
+    for y in 0..2 * n {
+        trade(table, room, k, p, y as u32);
     }
 }
 
@@ -135,12 +125,9 @@ fn number_row(table: &mut [u32], n: usize, room: usize, v: usize, met: usize) ->
     requires v_lt_met { v < met }
     ensures named { NamedIn n room table.old (named_to (usual n) (naming_of n room table.old met) v (length (usual n))) result table.new }
 {
-    let w = 2 * n;
     let mut found = met;
-    let mut i: usize = 0;
-    while i < w {
+    for i in 0..2 * n {
         found = number_cell(table, n, room, v, letter_at(n, i), found);
-        i += 1;
     }
     found
 }
@@ -154,6 +141,7 @@ pub fn number(table: &mut [u32], n: usize, room: usize) -> usize
 {
     let mut met: usize = 1;
     let mut v: usize = 0;
+    // No `for` fits: a row may meet points, so the bound grows.
     while v < met {
         met = number_row(table, n, room, v, met);
         v += 1;

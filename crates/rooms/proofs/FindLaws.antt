@@ -1,7 +1,6 @@
 -- Roots found by halving (`specs/Finding`), and the turns of `find` on plain values.
 --   Kept n old after <-> what halving keeps: the length, that forward falls, every root, and the cells from n on
 --   kept_path        : halving a way keeps all that; kept_found : so does `find`
---   found_root       : the name found is its own root
 -- Assumes nothing.
 use mathlib.Core.Path.{◌≡◌, refl, sym, ◌∙◌, ap, subst, fun_ext}
 use mathlib.Core.Logic.{by_cases}
@@ -14,7 +13,7 @@ use lib.Seq.{drop-set-lt}
 use borrow.Author.Tests.{eq-eqb, ne_eqb}
 use Rattle.engine.specs.Roots.{Falls, root_of, redirected, halved}
 use Rattle.engine.specs.Work.{forward_of}
-use Rattle.engine.proofs.RootLaws.{root_own, root_le, root_step, root_idem, halved_root, halved_falls}
+use Rattle.engine.proofs.RootLaws.{root_own, root_le, root_step, halved_root, halved_falls}
 use Rattle.engine.proofs.WorkLaws.{forward_in, forward_set}
 use Rattle.rooms.specs.Finding.{two_on, halved_path, halved_from, Found}
 
@@ -98,14 +97,6 @@ module _ {old : List ℕ} {n v r : ℕ} {after : List ℕ} (inside : v < n) (roo
   pub found_le : r ≤ v
   found_le = omega (arith, h.root, root_le (forward_of old n) falls v)
 
-  -- it is its own root
-  pub found_root : root_of (forward_of after n) r ≡ r
-  found_root =
-      kept_found.roots r
-      ∙ ap (root_of (forward_of old n)) h.root
-      ∙ root_idem (forward_of old n) falls v
-      ∙ sym h.root
-
 -- ── The loop ──
 
 -- the way is halved up to the name `at`, whose cell holds `next`
@@ -118,19 +109,6 @@ pub record Head (old : List ℕ) (n v at next : ℕ) (cells : List ℕ) : Type 0
   pub left : ℕ
   pub enough : at ≤ left
   pub path : halved_path left cells at ≡ halved_from old v
-
-pub head_first : (old : List ℕ) (n v : ℕ) → v < n → n ≤ length old → Falls (forward_of old n) → Head old n v v (get_or old v 0) old
-head_first old n v i r f =
-    record {
-      inside = i;
-      room = r;
-      kept = kept_first n old f;
-      root = refl;
-      read = refl;
-      left = v;
-      enough = omega arith;
-      path = refl;
-    }
 
 module _ {old : List ℕ} {n v at next : ℕ} {cells : List ℕ} (h : Head old n v at next cells) where
   pub head_room : n ≤ length cells

@@ -1,7 +1,7 @@
 -- Points united (`specs/Uniting`): the outcomes of `unite` on plain values, and what they are in the engine's model.
 --   Ready          <-> what `unite` asks
 --   united_stays, united_grows : the number of pending points stays, or grows by one
---   united_falls, united_length, united_rest : what is kept; but for one pending cell, the cells from n on are as they were
+--   united_falls, united_length, united_behind : what is kept; behind the pending points the cells are as they were
 --   united_state   : the state that the cells hold is the model's `united`; kept_state : `find` changes no state
 -- Assumes nothing.
 use mathlib.Core.Path.{◌≡◌, sym, ◌∙◌, ap, subst, fun_ext}
@@ -11,8 +11,8 @@ use Prim.Native.Nat.{ℕ, suc, ◌+◌, ◌-◌, ◌≤◌, ◌<◌, min, max}
 use native.Mathlib.Decide.{ℕ_discrete, dec_lt}
 use native.Mathlib.Numerals.{add-one}
 use native.Mathlib.Omega.{arith}
-use lib.ListN.{length, get_or, drop, set, length-set, length-drop}
-use lib.Seq.{drop-set-lt, drop-set-add, drop-drop, get_or-drop, get_or-set_other}
+use lib.ListN.{length, drop, set, length-set, length-drop}
+use lib.Seq.{drop-set-lt, drop-set-add, drop-drop, get_or-set_other}
 use borrow.Author.Tests.{eq-eqb, ne_eqb}
 use Rattle.theory.specs.Tables.{Cells}
 use Rattle.engine.specs.Roots.{Falls, root_of, redirected}
@@ -31,10 +31,9 @@ pub record Ready (old : List ℕ) (n room count p q : ℕ) : Type 0 where
   pub behind : n ≤ room
   pub fits : room + count < length old
 
-pub ready : {old : List ℕ} {n room count p q : ℕ}
-    → Falls (forward_of old n) × ((p < n) × (q < n) × (n ≤ room) × (room + count < length old))
-    → Ready old n room count p q
-ready h = record { falls = h.0; left = h.1.0; right = h.1.1; behind = h.1.2; fits = h.1.3 }
+pub ready : {old : List ℕ} {n room count p q : ℕ} → Falls (forward_of old n)
+    → (p < n) × (q < n) × (n ≤ room) × (room + count < length old) → Ready old n room count p q
+ready f h = record { falls = f; left = h.0; right = h.1; behind = h.2; fits = h.3 }
 
 -- ── The outcomes ──
 
@@ -137,16 +136,6 @@ kept_state {n} {old} {after} room count h k c m =
     ap (λ l. state_of c (forward_of after n) (pending_of l count) m) (drop_behind n room after old h k.rest)
     ∙ roots_path c (forward_of after n) (forward_of old n) (pending_of (drop room old) count) m k.roots
 
--- a cell from n on
-behind_at : (n i : ℕ) (a b : List ℕ) → n ≤ i → drop n a ≡ drop n b → get_or a i 0 ≡ get_or b i 0
-behind_at n i a b h e = split a ∙ ap (λ l. get_or l (i - n) 0) e ∙ sym (split b)
-  where
-    split : (l : List ℕ) → get_or l i 0 ≡ get_or (drop n l) (i - n) 0
-    split l = ap (λ j. get_or l j 0) whole ∙ sym (get_or-drop n l (i - n) 0)
-      where
-        whole : i ≡ n + (i - n)
-        whole = omega arith
-
 module _ {old : List ℕ} {n room count p q r : ℕ} {after : List ℕ} (h : Ready old n room count p q) (k : United old n room count p q r after) where
   abbrev f : ℕ → ℕ
   f = forward_of old n
@@ -209,19 +198,7 @@ module _ {old : List ℕ} {n room count p q r : ℕ} {after : List ℕ} (h : Rea
       (λ e. subst (λ l. Falls (forward_of l n)) (sym (after_same e)) halves_kept.falls)
       (λ e. subst Falls (sym (forward_more e)) (redirected_falls (forward_of halves n) hi lo halves_kept.falls (omega arith)))
 
-  -- no cell from n on changes but the one behind the pending points
-  pub united_rest : (i : ℕ) → n ≤ i → (i ≡ room + count → ⊥) → get_or after i 0 ≡ get_or old i 0
-  united_rest i g d =
-      by_cases (ℕ_discrete (root_of f p) (root_of f q)) (λ e. ap (λ l. get_or l i 0) (after_same e) ∙ kept)
-      (λ e. ap (λ l. get_or l i 0) (after_more e)
-      ∙ get_or-set_other (set halves hi lo) (room + count) i hi 0 d
-      ∙ get_or-set_other halves hi i lo 0 (λ q. omega (arith, hi_inside))
-      ∙ kept)
-    where
-      kept : get_or halves i 0 ≡ get_or old i 0
-      kept = behind_at n i halves old g halves_kept.rest
-
-  -- so whatever lies behind it is as it was
+  -- whatever lies behind the pending points is as it was
   pub united_behind : (j : ℕ) → n ≤ j → room + count < j → drop j after ≡ drop j old
   united_behind j g l =
       by_cases (ℕ_discrete (root_of f p) (root_of f q)) (λ e. ap (drop j) (after_same e) ∙ kept)

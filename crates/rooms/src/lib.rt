@@ -40,6 +40,7 @@ pub fn find(work: &mut [u32], n: usize, v: u32) -> u32
 {
     let mut at = v;
     let mut next = work[at as usize];
+    // No `for` fits: the walk goes from name to name, and nothing says how many there are.
     while next != at {
         let far = work[next as usize];
         work[at as usize] = far;

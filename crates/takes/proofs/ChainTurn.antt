@@ -1,6 +1,6 @@
 -- A chain of new points on plain values.
 --   part_cons, part_none : the first letter of a part of the word, and none
---   grow_usable, grow_ends, grow_left : a point made, and joined to the tip
+--   grow_usable, grow_left : a point made, and joined to the tip
 --   close_none, close_letter : the end of a chain
 --   Head : what is left of a chain, from the tip on
 -- Assumes nothing.
@@ -24,11 +24,11 @@ use Rattle.engine.proofs.ChainLaws.{stage₁, grown_weight, chain_joinable, chai
 use Rattle.engine.proofs.FoldedTable.{usual_closed}
 use Rattle.rooms.specs.declared.Room.{Room}
 use Rattle.rooms.specs.Uniting.{United}
-use Rattle.rooms.specs.WorkCells.{joined_work, grown_work, chained_work}
+use Rattle.rooms.specs.WorkCells.{joined_work, chained_work}
 use Rattle.rooms.specs.Rooms.{state_in, with_made, Lent, Usable, Left, After}
-use Rattle.rooms.proofs.RoomLaws.{all_words, plain_stage, left_first, left_as, left_then, left_after, left_united, fit_grown, fit_usable}
+use Rattle.rooms.proofs.RoomLaws.{all_words, plain_stage, left_as, left_then, left_after, left_united, fit_grown, fit_usable}
 use Rattle.links.specs.Links.{Ends}
-use Rattle.takes.specs.Chains.{word_in, part, Growing, GrownIn, ChainFits, chained_by, chained_cells, ClosedIn, Chained}
+use Rattle.takes.specs.Chains.{word_in, part, Growing, GrownIn, ChainFits, chained_by, chained_cells, ClosedIn}
 
 -- ── Parts of a word ──
 
@@ -111,14 +111,6 @@ module _ {r : Room} {table work : List ℕ} {count at i : ℕ} (h : Growing r ta
   grow_letter =
       get_or-set_other work r.made (2 * r.rows + i) r.made 0 (λ e. omega (arith, h.room)) ∙ sym (word_at r work i)
 
-  pub grow_ends : Ends next at (get_or work₁ (2 * r.rows + i) 0) r.made
-  grow_ends =
-      record {
-        from = omega (arith, h.from);
-        to = omega arith;
-        letter = subst (λ y. y < 2 * r.n) (sym grow_letter) h.letter;
-      }
-
   pub grow_left : {table' work' : List ℕ} {k : ℕ}
       → After next (λ t. joined t at (get_or work₁ (2 * r.rows + i) 0) r.made)
       (λ t v. joined_work r.rows t v at (get_or work₁ (2 * r.rows + i) 0) r.made) table work₁ count table' work' k
@@ -194,10 +186,6 @@ pub record Head (r : Room) (table₀ work₀ : List ℕ) (a b first end : ℕ) (
   pub ends : chained_by (with_made r made) table work count at b i end ≡ chained_by r table₀ work₀ 0 a b first end
   pub cells : chained_cells (with_made r made) table work count at b i end ≡ chained_cells r table₀ work₀ 0 a b first end
 
-pub head_first : {r : Room} {table work : List ℕ} {a b first end : ℕ} → ChainFits r table work 0 a b first end
-    → Head r table work a b first end r.made 0 a first table work
-head_first h = record { fits = h; left = left_first h.fit.lent 0; ends = refl; cells = refl }
-
 module _ {r : Room} {table₀ work₀ : List ℕ} {a b first end made count at i : ℕ} {table work : List ℕ}
     (h : Head r table₀ work₀ a b first end made count at i table work) where
   abbrev here : Room
@@ -243,9 +231,6 @@ module _ {r : Room} {table₀ work₀ : List ℕ} {a b first end made count at i
     module _ {table' work' : List ℕ} {k : ℕ} (m : GrownIn here table work count at i table' work' k) where
       abbrev grew : State
       grew = joined (grown now) at y made
-
-      abbrev grew_cells : List ℕ
-      grew_cells = joined_work r.rows (grown now) (grown_work now work) at y made
 
       onward : Chainable (λ t. Unit {0}) (λ v. []) (usual r.n) grew made (z ∷ rest) b
       onward =
@@ -303,10 +288,3 @@ module _ {r : Room} {table₀ work₀ : List ℕ} {a b first end made count at i
         where
           ahead : chained grew made (z ∷ rest) b ≡ chained_by r table₀ work₀ 0 a b first end
           ahead = ap (λ t. chained now at t b) (sym two) ∙ h.ends
-
-  pub head_done : {table' work' : List ℕ} {k : ℕ} → ClosedIn here table work count at b i end table' work' k
-      → Chained r table₀ work₀ 0 a b first end (record { made = made; count = k }) table' work'
-  head_done m =
-      let left = left_as h.ends h.cells
-      (left_then h.left (λ q. chained q at (part w i end) b) (λ q v. chained_work r.rows q v at (part w i end) b) m) in
-      record { made = ap (λ q. q.made) left.state; left = left }

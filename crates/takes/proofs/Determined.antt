@@ -6,8 +6,7 @@ use mathlib.Core.Path.{◌≡◌, sym, ◌∙◌, ap}
 use mathlib.Core.List.{List}
 use Prim.Native.Nat.{ℕ}
 use native.Mathlib.Omega.{arith}
-use lib.ListN.{length, take, length-drop}
-use lib.Seq.{length-take-le}
+use lib.ListN.{length, length-take, length-drop}
 use Rattle.theory.specs.Tables.{Cells}
 use Rattle.rooms.specs.declared.Room.{Room}
 use Rattle.rooms.proofs.Determined.{left_determined}
@@ -27,20 +26,13 @@ front_determined {c} {w} {f} {g} h k =
     stop_path (h.point ∙ sym k.point)
     (omega (arith, ap length h.rest, ap length k.rest, length-drop f.count w, length-drop g.count w, h.inside, k.inside))
 
-pub back_determined : {c : Cells} {w : List ℕ} {first : ℕ} {f g : Stop} → BackOf c w first f → BackOf c w first g → f ≡ g
-back_determined {c} {w} {first} {f} {g} h k =
+pub back_determined : {c : Cells} {w : List ℕ} {f g : Stop} → BackOf c w f → BackOf c w g → f ≡ g
+back_determined {c} {w} {f} {g} h k =
     stop_path (h.point ∙ sym k.point)
-    (omega (
-      arith,
-      ap length h.rest,
-      ap length k.rest,
-      length-drop first (take f.count w),
-      length-drop first (take g.count w),
-      length-take-le f.count w h.inside,
-      length-take-le g.count w k.inside,
-      h.first_in,
-      k.first_in,
-    ))
+    (omega (arith, ap length h.rest, ap length k.rest, length-take f.count w, length-take g.count w, h.inside, k.inside))
+
+grown_path : {f g : Grown} → f.made ≡ g.made → f.count ≡ g.count → f ≡ g
+grown_path e d = λ i. record { made = e i; count = d i }
 
 module _ {r : Room} {table work t₁ w₁ t₂ w₂ : List ℕ} where
   pub grow_determined : {count at i k l : ℕ} → Growing r table work count at i → GrownIn r table work count at i t₁ w₁ k
@@ -54,21 +46,18 @@ module _ {r : Room} {table work t₁ w₁ t₂ w₂ : List ℕ} where
   pub chain_determined : {a b first end : ℕ} {f g : Grown} → ChainFits r table work 0 a b first end
       → Chained r table work 0 a b first end f t₁ w₁ → Chained r table work 0 a b first end g t₂ w₂
       → (f ≡ g) × (t₁ ≡ t₂) × (w₁ ≡ w₂)
-  chain_determined {f = f} {g = g} h x y =
-      let e = left_determined h.fit.lent x.left y.left in (same (x.made ∙ sym y.made) e.2, e.0, e.1)
-    where
-      same : f.made ≡ g.made → f.count ≡ g.count → f ≡ g
-      same a b = λ i. record { made = a i; count = b i }
+  chain_determined h x y =
+      let e = left_determined h.fit.lent x.left y.left in (grown_path (x.made ∙ sym y.made) e.2, e.0, e.1)
 
   module _ {text : List ℕ} (h : Takeable r text table work) where
     pub circle_determined : {f g : Circled} → CircleOf r text table work f t₁ w₁ → CircleOf r text table work g t₂ w₂
         → (f ≡ g) × (t₁ ≡ t₂) × (w₁ ≡ w₂)
     circle_determined {f} {g} x y =
         let e = left_determined h.fit.lent x.left y.left in
-        (same (x.made ∙ sym y.made) e.2 (x.letters ∙ sym y.letters), e.0, e.1)
+        (same (grown_path (x.made ∙ sym y.made) e.2) (x.letters ∙ sym y.letters), e.0, e.1)
       where
-        same : f.made ≡ g.made → f.count ≡ g.count → f.left ≡ g.left → f ≡ g
-        same a b c = λ i. record { made = a i; count = b i; left = c i }
+        same : f.grown ≡ g.grown → f.left ≡ g.left → f ≡ g
+        same a b = λ i. record { grown = a i; left = b i }
 
     pub take_determined : {f g : Taken} → TakenIn r text table work f t₁ w₁ → TakenIn r text table work g t₂ w₂
         → (f ≡ g) × (t₁ ≡ t₂) × (w₁ ≡ w₂)

@@ -1,7 +1,7 @@
 -- One word taken in, on plain values: what the parts of `circle` and `take_in` ask and leave.
 --   work_is     : reducing the word leaves `reduced_in`
---   reads_asks, back_asks, chain_asks, circle_is : the readings, the chain, and what they are in the engine's model
---   drain_asks, taken_is : the drain
+--   front_asks, back_asks, chain_asks, circle_is : the readings, the chain, and what they are in the engine's model
+--   drain_asks  : what the drain asks
 --   taken_points, taken_fit, taken_long, taken_rest : what a caller learns
 -- Assumes nothing.
 use mathlib.Core.Path.{◌≡◌, refl, sym, ◌∙◌, ap, subst, subst₂, fun_ext}
@@ -10,11 +10,12 @@ use mathlib.Core.List.{List, [], ◌∷◌, ◌++◌, append-nil, append_assoc}
 use Prim.Native.Nat.{ℕ, zero, suc, ◌+◌, ◌-◌, ◌*◌, ◌≤◌, ◌<◌}
 use native.Mathlib.Decide.{dec_lt}
 use native.Mathlib.Omega.{arith}
-use lib.ListN.{length, get_or, take, drop, replicate, length-append, length-drop, length-take, length-replicate, drop_of_length-le}
-use lib.Seq.{drop-drop, take_all, take-append_seam, drop-append_seam, take-take, length-take-le, get_or-take}
+use lib.ListN.{length, get_or, take, drop, replicate, length-append, length-drop, length-replicate, drop_of_length-le}
+use lib.Seq.{drop-drop, take_all, take-append_seam, drop-append_seam, take-take, length-take-le, get_or-take, get_or-drop}
+use Rattle.std.proofs.lemmas.List.{drop-take}
 use borrow.Rule.Slice.PartMut.{put_mid}
 use Rattle.theory.specs.Words.{reduced, inverse_of}
-use Rattle.theory.specs.Letters.{word_length, first_word, AllIn, usual}
+use Rattle.theory.specs.Letters.{first_word, AllIn, usual}
 use Rattle.theory.specs.Graphs.{new_points}
 use Rattle.theory.specs.Tables.{Cells, cell}
 use Rattle.theory.proofs.WordLaws.{letters, reduced_none}
@@ -24,7 +25,7 @@ use Rattle.words.specs.declared.Reduced.{Reduced as Figures}
 use Rattle.words.specs.Reduction.{reduced_cells, ReducedInto}
 use Rattle.words.proofs.ReduceTurn.{cells_kept}
 use Rattle.engine.specs.Roots.{Falls}
-use Rattle.engine.specs.Engine.{state_of, ahead, front, behind, chained, taken_in, drained}
+use Rattle.engine.specs.Engine.{state_of, front, behind, chained, taken_in}
 use Rattle.engine.specs.Stages.{Chainable, Roomy}
 use Rattle.engine.specs.Work.{forward_of, pending_of}
 use Rattle.engine.proofs.WorkLaws.{forward_in, forward_own}
@@ -34,9 +35,9 @@ use Rattle.engine.proofs.TakeLaws.{stage_chainable}
 use Rattle.engine.proofs.FoldLaws.{all_reduced, parts_read, middle_points}
 use Rattle.engine.proofs.FoldedTable.{usual_closed}
 use Rattle.rooms.specs.declared.Room.{Room}
-use Rattle.rooms.specs.WorkCells.{drained_work, chained_work, taken_work}
-use Rattle.rooms.specs.Rooms.{state_in, with_made, Plain, Fit, Left, After}
-use Rattle.rooms.proofs.RoomLaws.{all_words, plain_stage, left_as, left_then, fit_grown, fit_usable}
+use Rattle.rooms.specs.WorkCells.{chained_work, taken_work}
+use Rattle.rooms.specs.Rooms.{state_in, with_made, Plain, Fit, Left}
+use Rattle.rooms.proofs.RoomLaws.{all_words, plain_stage, left_as, fit_grown, fit_usable}
 use Rattle.takes.specs.declared.Stop.{Stop}
 use Rattle.takes.specs.declared.Grown.{Grown}
 use Rattle.takes.specs.declared.Circled.{Circled}
@@ -45,6 +46,18 @@ use Rattle.takes.specs.Readings.{Readable, FrontOf, BackOf}
 use Rattle.takes.specs.Chains.{word_in, part, ChainFits, chained_by, chained_cells, Chained}
 use Rattle.takes.specs.Takes.{reduced_in, circled_cells, Takeable, circled, CircleOf, TakenIn}
 use Rattle.takes.proofs.ChainTurn.{usual_below}
+
+-- behind some letters
+readable_drop : {r : Room} {table w : List ℕ} → Readable r table w → (k : ℕ) → Readable r table (drop k w)
+readable_drop {r} {table} {w} h k =
+    record {
+      most = h.most;
+      inside = h.inside;
+      lent = h.lent;
+      named = h.named;
+      base = h.base;
+      letters = λ i l. subst (λ y. y < 2 * r.n) (sym (get_or-drop k w i 0)) (h.letters (k + i) (omega (arith, length-drop k w)));
+    }
 
 -- the letters of a word of n generators
 letters_below : (n : ℕ) (w : List ℕ) → AllIn (usual n) w → (i : ℕ) → i < length w → get_or w i 0 < 2 * n
@@ -74,9 +87,6 @@ module _ {r : Room} {text table work : List ℕ} (h : Takeable r text table work
 
   whole : take (length work - 2 * R) behind_r ≡ behind_r
   whole = take_all (length work - 2 * R) behind_r (omega (arith, length-drop (2 * R) work))
-
-  pub reduce_asks : word_length text ≤ length (take (length work - 2 * R) behind_r)
-  reduce_asks = omega (arith, ap length whole, length-drop (2 * R) work, h.place, h.fit.lent.room)
 
   -- reducing the word behind the pending cells
   pub work_is : {d : Figures} {after : List ℕ} → ReducedInto text (take (length work - 2 * R) behind_r) d after
@@ -180,107 +190,121 @@ module _ {r : Room} {text table work : List ℕ} (h : Takeable r text table work
           roomy = subst Roomy (sym state_same) h.fit.roomy;
         }
 
-    -- ── The readings ──
+  -- ── The readings ──
 
-    module _ {size : ℕ} (is : size ≡ length word) where
-      whole₁ : take (length work₁ - 2 * R) (drop (2 * R) work₁) ≡ drop (2 * R) work₁
-      whole₁ = take_all (length work₁ - 2 * R) (drop (2 * R) work₁) (omega (arith, length-drop (2 * R) work₁))
+  module _ {d : Figures} {after : List ℕ} (e : ReducedInto text (take (length work - 2 * R) behind_r) d after) where
+    abbrev work₁ : List ℕ
+    work₁ = put_mid (2 * R) (length work - 2 * R) work after
 
-      pub word_read : take size (take (length work₁ - 2 * R) (drop (2 * R) work₁)) ≡ word
-      word_read = ap (take size) whole₁ ∙ ap (λ k. take k (drop (2 * R) work₁)) is ∙ word_size
+    e₁ : work₁ ≡ reduced_in R (first_word text) work
+    e₁ = work_is e
 
-      small : length word ≤ word_length text
-      small = omega (arith, reduced_shorter (first_word text), length-first_word text)
+    readable_word : Readable r table word
+    readable_word =
+        record {
+          most = h.fit.lent.most;
+          inside = h.fit.lent.inside;
+          lent = h.fit.lent.lent;
+          named = (fit_usable h.fit).named;
+          base = h.fit.stage.some;
+          letters = letters_below r.n word (all_reduced (usual r.n) (first_word text) h.letters);
+        }
 
-      pub reads_asks
-          : Readable r table (take size (take (length work₁ - 2 * R) (drop (2 * R) work₁)))
-          × (size ≤ length (take (length work₁ - 2 * R) (drop (2 * R) work₁)))
-      reads_asks = (
-        subst (Readable r table) (sym word_read)
-            (record {
-              most = h.fit.lent.most;
-              inside = h.fit.lent.inside;
-              lent = h.fit.lent.lent;
-              named = (fit_usable h.fit).named;
-              base = h.fit.stage.some;
-              letters = letters_below r.n word (all_reduced (usual r.n) (first_word text) h.letters);
-            }),
-        omega (arith, is, small, h.place, ap length whole₁, length-drop (2 * R) work₁, k₁, h.fit.lent.room),
-      )
+    -- the cells that are read forward hold the word
+    word_read : take (2 * R + d.left - 2 * R) (word_in r work₁) ≡ word
+    word_read = ap (λ k. take k (word_in r work₁)) long ∙ word_size e₁
+      where
+        long : 2 * R + d.left - 2 * R ≡ length word
+        long = omega (arith, e.left)
 
-      module _ {f : Stop} (p : FrontOf c (take size (take (length work₁ - 2 * R) (drop (2 * R) work₁))) f) where
-        front_word : FrontOf c word f
-        front_word = subst (λ w. FrontOf c w f) word_read p
+    pub front_asks : Readable r table (take (2 * R + d.left - 2 * R) (word_in r work₁))
+    front_asks = subst (Readable r table) (sym word_read) readable_word
 
-        pub back_asks : f.count ≤ size
-        back_asks = omega (arith, front_word.inside, is)
+    module _ {f : Stop} (p : FrontOf c (take (2 * R + d.left - 2 * R) (word_in r work₁)) f) where
+      front_word : FrontOf c word f
+      front_word = subst (λ w. FrontOf c w f) word_read p
 
-        module _ {b : Stop} (q : BackOf c (take size (take (length work₁ - 2 * R) (drop (2 * R) work₁))) f.count b) where
-          back_word : BackOf c word f.count b
-          back_word = subst (λ w. BackOf c w f.count b) word_read q
+      abbrev size : ℕ
+      size = 2 * R + d.left - (2 * R + f.count)
 
-          -- the middle of the word
-          abbrev middle : List ℕ
-          middle = inverse_of (behind c word).rest
+      -- and those that are read backward what is left of it
+      rest_is : take size (drop f.count (word_in r work₁)) ≡ (front c word).rest
+      rest_is =
+          sym (drop-take f.count size (word_in r work₁)) ∙ ap (λ k. drop f.count (take k (word_in r work₁))) long
+          ∙ ap (drop f.count) (word_size e₁) ∙ front_word.rest
+        where
+          long : f.count + size ≡ length word
+          long = omega (arith, e.left, front_word.inside)
 
-          rest_is : drop f.count word ≡ (front c word).rest
-          rest_is = front_word.rest
+      rest_read : take size (drop (2 * R + f.count) work₁) ≡ (front c word).rest
+      rest_read = ap (take size) (sym (drop-drop f.count (2 * R) work₁)) ∙ rest_is
 
-          middle_is : part (word_in r work₁) f.count b.count ≡ middle
-          middle_is =
-              ap (drop f.count) (sym (take-take b.count (length word) (word_in r work₁) back_word.inside) ∙ ap (take b.count) word_size)
-              ∙ back_word.rest
-              ∙ ap (λ l. inverse_of (ahead c 0 (inverse_of l)).rest) rest_is
+      pub back_asks : Readable r table (take size (drop (2 * R + f.count) work₁))
+      back_asks = subst (Readable r table) (front_word.rest ∙ sym rest_read) (readable_drop readable_word f.count)
 
-          back_point : b.point ≡ (behind c word).point
-          back_point = back_word.point ∙ ap (λ l. (ahead c 0 (inverse_of l)).point) rest_is
+      module _ {b : Stop} (q : BackOf c (take size (drop (2 * R + f.count) work₁)) b) where
+        back_rest : BackOf c (front c word).rest b
+        back_rest = subst (λ w. BackOf c w b) rest_read q
 
-          made_is : chained_by r table work₁ 0 f.point b.point f.count b.count ≡ circled r text table work
-          unfolding taken_in
-          made_is =
-              ap (λ s. chained s f.point (part (word_in r work₁) f.count b.count) b.point) state_same
-              ∙ ap (λ a. chained (state_in r table work 0) a (part (word_in r work₁) f.count b.count) b.point) front_word.point
-              ∙ ap (λ m. chained (state_in r table work 0) (front c word).point m b.point) middle_is
-              ∙ ap (chained (state_in r table work 0) (front c word).point middle) back_point
+        abbrev end : ℕ
+        end = f.count + b.count
 
-          cells_are
-              : chained_cells r table work₁ 0 f.point b.point f.count b.count
-              ≡ circled_cells R (state_in r table work 0) work (first_word text)
-          unfolding taken_work
-          cells_are =
-              ap (λ s. chained_work R s work₁ f.point (part (word_in r work₁) f.count b.count) b.point) state_same
-              ∙ ap (λ a. chained_work R (state_in r table work 0) work₁ a (part (word_in r work₁) f.count b.count) b.point) front_word.point
-              ∙ ap (λ m. chained_work R (state_in r table work 0) work₁ (front c word).point m b.point) middle_is
-              ∙ ap (chained_work R (state_in r table work 0) work₁ (front c word).point middle) back_point
-              ∙ ap (λ l. chained_work R (state_in r table work 0) l (front c word).point middle (behind c word).point) e₁
+        -- the middle of the word
+        abbrev middle : List ℕ
+        middle = inverse_of (behind c word).rest
 
-          points : new_points middle ≤ new_points word
-          points =
-              omega (arith, ap length middle_is, length-drop f.count (take b.count (word_in r work₁)), length-take b.count (word_in r work₁), back_word.inside)
+        inside : end ≤ length word
+        inside = omega (arith, back_rest.inside, ap length front_word.rest, length-drop f.count word, front_word.inside)
 
-          pub chain_asks : ChainFits r table work₁ 0 f.point b.point f.count b.count
-          chain_asks =
-              record {
-                fit = fit_same;
-                order = back_word.first_in;
-                place = omega (arith, back_word.inside, small, h.place);
-                room = omega (arith, ap length middle_is, points, h.room);
-                chainable =
-                    subst (λ s. Chainable (λ w. Unit {0}) (λ v. []) (usual r.n) s f.point (part (word_in r work₁) f.count b.count) b.point) (sym state_same)
-                    (subst (λ a. Chainable (λ w. Unit {0}) (λ v. []) (usual r.n) (state_in r table work 0) a (part (word_in r work₁) f.count b.count) b.point) (sym front_word.point)
-                    (subst₂ (λ m d. Chainable (λ w. Unit {0}) (λ v. []) (usual r.n) (state_in r table work 0) (front c word).point m d) (sym middle_is) (sym back_point) word_chainable));
-              }
+        middle_is : part (word_in r work₁) f.count end ≡ middle
+        middle_is =
+            drop-take f.count b.count (word_in r work₁)
+            ∙ sym (take-take b.count size (drop f.count (word_in r work₁)) (omega (arith, inside, e.left)))
+            ∙ ap (take b.count) rest_is
+            ∙ back_rest.rest
 
-          pub circle_is : {g : Grown} {table' work' : List ℕ}
-              → Chained r table work₁ 0 f.point b.point f.count b.count g table' work'
-              → CircleOf r text table work (record { made = g.made; count = g.count; left = size }) table' work'
-          circle_is {g} {table'} {work'} k =
-              record {
-                made = k.made ∙ ap (λ s. s.made) made_is;
-                letters = is;
-                left = subst (λ l. Left (with_made r g.made) table l (circled r text table work)
-                    (circled_cells R (state_in r table work 0) work (first_word text)) table' work' g.count) e₁ (left_as made_is cells_are k.left);
-              }
+        made_is : chained_by r table work₁ 0 f.point b.point f.count end ≡ circled r text table work
+        unfolding taken_in
+        made_is =
+            ap (λ s. chained s f.point (part (word_in r work₁) f.count end) b.point) (state_same e₁)
+            ∙ ap (λ a. chained (state_in r table work 0) a (part (word_in r work₁) f.count end) b.point) front_word.point
+            ∙ ap (λ m. chained (state_in r table work 0) (front c word).point m b.point) middle_is
+            ∙ ap (chained (state_in r table work 0) (front c word).point middle) back_rest.point
+
+        cells_are
+            : chained_cells r table work₁ 0 f.point b.point f.count end
+            ≡ circled_cells R (state_in r table work 0) work (first_word text)
+        unfolding taken_work
+        cells_are =
+            ap (λ s. chained_work R s work₁ f.point (part (word_in r work₁) f.count end) b.point) (state_same e₁)
+            ∙ ap (λ a. chained_work R (state_in r table work 0) work₁ a (part (word_in r work₁) f.count end) b.point) front_word.point
+            ∙ ap (λ m. chained_work R (state_in r table work 0) work₁ (front c word).point m b.point) middle_is
+            ∙ ap (chained_work R (state_in r table work 0) work₁ (front c word).point middle) back_rest.point
+            ∙ ap (λ l. chained_work R (state_in r table work 0) l (front c word).point middle (behind c word).point) e₁
+
+        pub chain_asks : ChainFits r table work₁ 0 f.point b.point f.count end
+        chain_asks =
+            record {
+              fit = fit_same e₁;
+              order = omega arith;
+              place = omega (arith, inside, reduced_shorter (first_word text), length-first_word text, h.place);
+              room = omega (arith, ap length middle_is, middle_points c word, h.room);
+              chainable =
+                  subst (λ s. Chainable (λ w. Unit {0}) (λ v. []) (usual r.n) s f.point (part (word_in r work₁) f.count end) b.point) (sym (state_same e₁))
+                  (subst (λ a. Chainable (λ w. Unit {0}) (λ v. []) (usual r.n) (state_in r table work 0) a (part (word_in r work₁) f.count end) b.point) (sym front_word.point)
+                  (subst₂ (λ m d. Chainable (λ w. Unit {0}) (λ v. []) (usual r.n) (state_in r table work 0) (front c word).point m d) (sym middle_is) (sym back_rest.point) word_chainable));
+            }
+
+        pub circle_is : {g : Grown} {table' work' : List ℕ}
+            → Chained r table work₁ 0 f.point b.point f.count end g table' work'
+            → CircleOf r text table work (record { grown = g; left = d.left }) table' work'
+        circle_is {g} {table'} {work'} k =
+            record {
+              made = k.made ∙ ap (λ s. s.made) made_is;
+              letters = e.left;
+              left = subst (λ l. Left (with_made r g.made) table l (circled r text table work)
+                  (circled_cells R (state_in r table work 0) work (first_word text)) table' work' g.count) e₁ (left_as made_is cells_are k.left);
+            }
 
   -- ── The drain ──
 
@@ -290,20 +314,10 @@ module _ {r : Room} {text table work : List ℕ} (h : Takeable r text table work
   chained_in = chained_chains all_words (usual_closed r.n) (state_in r table work 0) _ _ _ word_chainable
 
   module _ {g : Circled} {table' work' : List ℕ} (k : CircleOf r text table work g table' work') where
-    pub drain_asks : Fit (with_made r g.made) [] table' work' g.count
+    pub drain_asks : Fit (with_made r g.grown.made) [] table' work' g.grown.count
     drain_asks =
-        fit_grown g.made (omega (arith, k.made, chained_in.made, middle_points c word, h.room))
+        fit_grown g.grown.made (omega (arith, k.made, chained_in.made, middle_points c word, h.room))
         (fit_same refl).lent k.left (plain_stage chained_in.stage) (omega (arith, chained_in.made, chained_in.weighs, h.fit.roomy))
-
-    pub taken_is : {table'' work'' : List ℕ}
-        → After (with_made r g.made) (drained (usual r.n)) (drained_work R (usual r.n)) table' work' g.count table'' work'' 0
-        → TakenIn r text table work (record { made = g.made; left = g.left }) table'' work''
-    taken_is m =
-        record {
-          made = k.made;
-          letters = k.letters;
-          left = left_then k.left (drained (usual r.n)) (drained_work R (usual r.n)) m;
-        }
 
   -- ── For callers ──
 

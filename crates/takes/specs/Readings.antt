@@ -1,8 +1,7 @@
 -- How far a word in lent cells is read from the base, forward and backward, cited by `read_front` and `read_back`.
 --   Readable r table w <-> the cells of the room name points made, the base is made, and w has letters of n generators
 --   FrontOf c w r      <-> r has the point where reading w forward stopped, and how many letters were read
---   BackOf c w first r <-> r has the point where reading the letters of w from `first` on backward, by inverses, stopped, and
---                          the place up to which letters are left
+--   BackOf c w r       <-> r has the point where reading w backward, by inverses, stopped, and how many letters are left
 -- Assumes nothing.
 use Rattle.std.specs.Prelude.{◌≡◌, List, ℕ, ◌*◌, ◌≤◌, ◌<◌, length, get_or, take, drop}
 use Rattle.theory.specs.Words.{inverse_of}
@@ -24,8 +23,7 @@ pub record FrontOf (c : Cells) (w : List ℕ) (r : Stop) : Type 0 where
   pub inside : r.count ≤ length w
   pub rest : drop r.count w ≡ (ahead c 0 w).rest
 
-pub record BackOf (c : Cells) (w : List ℕ) (first : ℕ) (r : Stop) : Type 0 where
-  pub point : r.point ≡ (ahead c 0 (inverse_of (drop first w))).point
-  pub first_in : first ≤ r.count
+pub record BackOf (c : Cells) (w : List ℕ) (r : Stop) : Type 0 where
+  pub point : r.point ≡ (ahead c 0 (inverse_of w)).point
   pub inside : r.count ≤ length w
-  pub rest : drop first (take r.count w) ≡ inverse_of (ahead c 0 (inverse_of (drop first w))).rest
+  pub rest : take r.count w ≡ inverse_of (ahead c 0 (inverse_of w)).rest

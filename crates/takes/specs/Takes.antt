@@ -35,11 +35,11 @@ abbrev pub circled : Room → List ℕ → List ℕ → List ℕ → State
 circled r part table work = taken_in (state_in r table work 0) (reduced (first_word part))
 
 pub record CircleOf (r : Room) (part table work : List ℕ) (g : Circled) (table' work' : List ℕ) : Type 0 where
-  pub made : g.made ≡ (circled r part table work).made
+  pub made : g.grown.made ≡ (circled r part table work).made
   pub letters : g.left ≡ length (reduced (first_word part))
   pub left
-      : Left (with_made r g.made) table (reduced_in r.rows (first_word part) work) (circled r part table work)
-      (circled_cells r.rows (state_in r table work 0) work (first_word part)) table' work' g.count
+      : Left (with_made r g.grown.made) table (reduced_in r.rows (first_word part) work) (circled r part table work)
+      (circled_cells r.rows (state_in r table work 0) work (first_word part)) table' work' g.grown.count
 
 pub record TakenIn (r : Room) (part table work : List ℕ) (g : Taken) (table' work' : List ℕ) : Type 0 where
   pub made : g.made ≡ (circled r part table work).made

@@ -1,12 +1,13 @@
 // Taking one word in: it is reduced, read from the base as far as cells exist, and its middle is chained.
 #![tactic(auto)]
 
-ghost use Rattle.std.specs.Prelude.{◌≡◌, ◌+◌, ◌≤◌, ◌<◌, length, take};
+ghost use Rattle.std.specs.Prelude.{◌+◌, ◌≤◌};
 ghost use Rattle.theory.specs.Tables.{cell};
 ghost use Rattle.takes.specs.Readings.{Readable, FrontOf, BackOf};
 ghost use Rattle.takes.specs.Chains.{Growing, GrownIn, ChainFits, Chained, ClosedIn};
 ghost use Rattle.takes.specs.Takes.{Takeable, CircleOf, TakenIn};
 
+use cells::ABSENT;
 use rooms::Room;
 
 // Where a reading stopped: the point, and the place in the word.
@@ -26,8 +27,7 @@ pub struct Grown {
 // What building a circle says: what has grown, and the letters of the reduced word.
 #[derive(Clone, Copy)]
 pub struct Circled {
-    pub made: usize,
-    pub count: usize,
+    pub grown: Grown,
     pub left: usize,
 }
 
@@ -38,52 +38,42 @@ pub struct Taken {
     pub left: usize,
 }
 
-// The absent mark.
-const ABSENT: u32 = 4294967295;
-
-// Reads the first `size` letters of `word` forward from the base as far as cells exist.
-fn read_front(table: &[u32], word: &[u32], room: Room, size: usize) -> Stop
-    requires readable { Readable room table.now (take size word.now) }
-    requires size_in_bounds { size ≤ length word.now }
-    ensures front { FrontOf (cell room.n room.rows table.now) (take size word.now) result }
+// Reads `word` forward from the base as far as cells exist.
+fn read_front(table: &[u32], word: &[u32], room: Room) -> Stop
+    requires { Readable room table.now word.now }
+    ensures front { FrontOf (cell room.n room.rows table.now) word.now result }
 {
     let mut v: u32 = 0;
-    let mut i: usize = 0;
-    while i < size {
-        let x = links::cell_at(table, room, v, word[i]);
+    for (i, &y) in word.iter().enumerate() {
+        let x = links::cell_at(table, room, v, y);
         if x == ABSENT {
             return Stop { point: v, count: i };
         }
         v = x;
-        i += 1;
-    }
-    Stop { point: v, count: i }
-}
-
-// Reads the letters of `word` from `first` to `size` backward, by inverses, from the base as far as cells exist.
-fn read_back(table: &[u32], word: &[u32], room: Room, first: usize, size: usize) -> Stop
-    requires readable { Readable room table.now (take size word.now) }
-    requires first_le_size { (first ≤ size) × (size ≤ length word.now) }
-    ensures back { BackOf (cell room.n room.rows table.now) (take size word.now) first result }
-{
-    let mut v: u32 = 0;
-    let mut end = size;
-    while first < end {
-        let last = end - 1;
-        let x = links::cell_at(table, room, v, letters::inverse(word[last]));
-        if x == ABSENT {
-            return Stop {
-                point: v,
-                count: end,
-            };
-        }
-        v = x;
-        end = last;
     }
     Stop {
         point: v,
-        count: end,
+        count: word.len(),
     }
+}
+
+// Reads `word` backward, by inverses, from the base as far as cells exist.
+fn read_back(table: &[u32], word: &[u32], room: Room) -> Stop
+    requires { Readable room table.now word.now }
+    ensures back { BackOf (cell room.n room.rows table.now) word.now result }
+{
+    let mut v: u32 = 0;
+    for (i, &y) in word.iter().enumerate().rev() {
+        let x = links::cell_at(table, room, v, letters::inverse(y));
+        if x == ABSENT {
+            return Stop {
+                point: v,
+                count: i + 1,
+            };
+        }
+        v = x;
+    }
+    Stop { point: v, count: 0 }
 }
 
 // Makes a point, and joins `at` to it by the i-th letter of the word. Answers the new number of pending points.
@@ -96,9 +86,8 @@ fn grow(table: &mut [u32], work: &mut [u32], room: Room, count: usize, at: u32, 
     work[made] = new;
     let y = work[2 * room.rows + i];
     let more = Room {
-        n: room.n,
-        rows: room.rows,
         made: made + 1,
+        ..room
     };
     links::link(table, work, more, count, at, y, new)
 }
@@ -138,19 +127,17 @@ fn chain(
     requires { ChainFits room table.old work.old 0 a b first end }
     ensures chained { Chained room table.old work.old 0 a b first end result table.new work.new }
 {
-    let n = room.n;
-    let rows = room.rows;
+    // The place of the last letter, or `end` where there is no letter.
+    let last = if first < end { end - 1 } else { end };
     let mut made = room.made;
     let mut count: usize = 0;
     let mut at = a;
-    let mut i = first;
-    while i + 1 < end {
-        count = grow(table, work, Room { n, rows, made }, count, at, i);
+    for i in first..last {
+        count = grow(table, work, Room { made, ..room }, count, at, i);
         at = made as u32;
         made += 1;
-        i += 1;
     }
-    count = close(table, work, Room { n, rows, made }, count, at, b, i, end);
+    count = close(table, work, Room { made, ..room }, count, at, b, last, end);
     Grown { made, count }
 }
 
@@ -161,22 +148,22 @@ fn circle(table: &mut [u32], work: &mut [u32], room: Room, part: &[u8]) -> Circl
 {
     let at = 2 * room.rows;
     let word = words::reduce(part, &mut work[at..]);
-    let size = word.left;
-    let front = read_front(table, &work[at..], room, size);
-    let back = read_back(table, &work[at..], room, front.count, size);
+    let end = at + word.left;
+    let front = read_front(table, &work[at..end], room);
+    let first = front.count;
+    let back = read_back(table, &work[at + first..end], room);
     let grown = chain(
         table,
         work,
         room,
         front.point,
         back.point,
-        front.count,
-        back.count,
+        first,
+        first + back.count,
     );
     Circled {
-        made: grown.made,
-        count: grown.count,
-        left: size,
+        grown,
+        left: word.left,
     }
 }
 
@@ -186,17 +173,8 @@ pub fn take_in(table: &mut [u32], work: &mut [u32], room: Room, part: &[u8]) -> 
     ensures taken { TakenIn room part.now table.old work.old result table.new work.new }
 {
     let circled = circle(table, work, room, part);
-    let made = circled.made;
-    drains::drain(
-        table,
-        work,
-        Room {
-            n: room.n,
-            rows: room.rows,
-            made,
-        },
-        circled.count,
-    );
+    let made = circled.grown.made;
+    drains::drain(table, work, Room { made, ..room }, circled.grown.count);
     Taken {
         made,
         left: circled.left,

@@ -14,8 +14,8 @@ offset_bounds-work-room c = record { fits = omega (arith, last_inside c.requires
 pub bounds-work-room : goal.bounds-work-room
 bounds-work-room c = last_inside c.requires.fit c.requires.count_nonzero
 
-pub find-u-requires : goal.find-u-requires
-find-u-requires c = record { falls = c.requires.fit.lent.falls; v_lt_n = (off_made c.requires.fit c.requires.count_nonzero refl, omega (arith, c.requires.fit.lent.inside, c.requires.fit.lent.room)) }
+pub find-u-requires-clause-v_lt_n : goal.find-u-requires-clause-v_lt_n
+find-u-requires-clause-v_lt_n c = (off_made c.requires.fit c.requires.count_nonzero refl, omega arith)
 
 pub clear_row-requires : goal.clear_row-requires
 clear_row-requires c = off_hand c.requires.fit c.requires.count_nonzero refl c.find-u.ensures.found

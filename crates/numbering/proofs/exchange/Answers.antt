@@ -1,5 +1,4 @@
 use mathlib.Core.Path.{sym}
-use native.Mathlib.Omega.{arith}
 use Rattle.engine.proofs.ExchangeLaws.{exchanged_own}
 use Rattle.engine.proofs.HoldLaws.{holds_first, holds_as}
 use Rattle.numbering.proofs.TradeTurn.{head_first, head_asks, head_turn, head_done}
@@ -14,15 +13,10 @@ loop-y-init c = head_first
 pub trade-requires : goal.trade-requires
 trade-requires c = head_asks c.requires.roomed c.requires.k_lt_room.0 c.requires.k_lt_room.1 c.if-k-p.false c.loop-y.invariant c.loop-y-test.true
 
-pub loop-y-smaller : goal.loop-y-smaller
-loop-y-smaller c = omega (arith, c.loop-y-test.true)
-
 pub loop-y-preserved : goal.loop-y-preserved
-loop-y-preserved c = head_turn c.requires.roomed c.requires.k_lt_room.0 c.requires.k_lt_room.1 c.if-k-p.false c.loop-y.invariant c.loop-y-test.true
-    c.trade.ensures.traded
-
-pub shape_of-table : goal.shape_of-table
-shape_of-table c = c.loop-y.invariant.held.same
+loop-y-preserved c = head_turn c.requires.roomed c.requires.k_lt_room.0 c.requires.k_lt_room.1 c.if-k-p.false c.loop-y.invariant c.trade.ensures.traded
 
 pub returns : goal.returns
-returns c = record { exchanged = head_done c.requires.roomed c.requires.k_lt_room.0 c.requires.k_lt_room.1 c.if-k-p.false c.loop-y.invariant c.loop-y-test.false }
+returns c = record {
+  exchanged = head_done c.requires.roomed c.requires.k_lt_room.0 c.requires.k_lt_room.1 c.if-k-p.false c.loop-y.invariant c.loop-y-test.false;
+}

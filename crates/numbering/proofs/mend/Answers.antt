@@ -1,6 +1,7 @@
 -- `numbering::mend` meets its contract. The outcomes are those of `TradeTurn`.
 -- Assumes nothing.
-use Rattle.numbering.proofs.StepLaws.{inside_back}
+use mathlib.Core.Path.{refl}
+use Rattle.links.proofs.LinkLaws.{back_in}
 use Rattle.numbering.proofs.TradeTurn.{mend_none, mend_first, mend_second, mend_far}
 use Rattle.numbering.proofs.mend.Goals as goal
 
@@ -14,7 +15,7 @@ pub returns-then-q-p : goal.returns-then-q-p
 returns-then-q-p c = record { mended = mend_second _ _ _ _ _ c.if-q-eq-ABSENT.false c.if-q-k.false c.if-q-p.true }
 
 pub put_at-requires : goal.put_at-requires
-put_at-requires c = inside_back c.requires.inside _ c.inverse.ensures.inverse (c.requires.cell c.if-q-eq-ABSENT.false)
+put_at-requires c = back_in c.requires.inside refl (c.requires.cell c.if-q-eq-ABSENT.false) c.inverse.ensures.inverse
 
 pub returns : goal.returns
 returns c = record {

@@ -16,6 +16,5 @@ returns c = record {
       c.exchange.ensures.exchanged;
 }
 
-pub exchange-requires : goal.exchange-requires
-exchange-requires c = let s = c.requires.scanned in
-    record { roomed = s.roomed; k_lt_room = cell_asks s _ _ c.cell_at-u.ensures.leads c.if-u.false (omega arith) }
+pub exchange-requires-clause-k_lt_room : goal.exchange-requires-clause-k_lt_room
+exchange-requires-clause-k_lt_room c = cell_asks c.requires.scanned _ _ c.cell_at-u.ensures.leads c.if-u.false (omega arith)

@@ -4,8 +4,13 @@ use Rattle.takes.proofs.ChainTurn.{close_usable, close_none, close_ends, close_l
 use native.Mathlib.Omega.{arith}
 use Rattle.takes.proofs.close.Goals as goal
 
-pub unite-requires : goal.unite-requires
-unite-requires c = record { falls = c.requires.fits.fit.lent.falls; p_lt_n = (c.requires.fits.chainable.from, c.requires.fits.chainable.to, c.requires.fits.fit.lent.inside, omega (arith, (close_usable c.requires.fits).spare, c.requires.fits.fit.lent.room)) }
+pub unite-requires-clause-p_lt_n : goal.unite-requires-clause-p_lt_n
+unite-requires-clause-p_lt_n c = (
+  c.requires.fits.chainable.from,
+  c.requires.fits.chainable.to,
+  c.requires.fits.fit.lent.inside,
+  omega (arith, (close_usable c.requires.fits).spare),
+)
 
 pub returns-then-i-end : goal.returns-then-i-end
 returns-then-i-end c = record { closed = close_none c.requires.fits c.if-i-end.true c.unite.ensures.united }
