@@ -1,21 +1,26 @@
 -- What the parts of `ask` say, on plain values.
 --   filled_twice : cells filled twice with one value are filled up to the greater number
---   scan_refused, scan_fine : the refusals of the texts; six, seven : those of `ask_texts`
---   build_asks, answered    : the outcome of `ask_lent`
+--   texts_refused, rows_refused, work_refused : a refusal at a stage of `ask` is the answer
+--   rows_asks                                 : a list that is fine has few rows
+--   build_asks, answered                      : the outcome of `ask_lent`
 -- Assumes nothing.
 use mathlib.Core.Path.{◌≡◌, refl, sym, ◌∙◌, ap, subst}
 use mathlib.Core.Logic.{inl, inr, by_cases}
-use mathlib.Core.Bool.{Bool, true, false, cond, true≢false}
-use mathlib.Core.Option.{Option, none, some}
+use mathlib.Core.Bool.{Bool, true, false, true≢false}
+use mathlib.Core.Option.{Option, none}
 use mathlib.Core.List.{List, ◌∷◌, ◌++◌}
-use Prim.Native.Nat.{ℕ, zero, suc, ◌*◌, ◌≤◌, ◌<◌, max}
+use Prim.Native.Nat.{ℕ, zero, suc, ◌+◌, ◌*◌, ◌≤◌, ◌<◌, max}
 use native.Mathlib.Decide.{dec_lt}
 use native.Mathlib.Nat.{mul-le-mul_right}
 use native.Mathlib.Omega.{arith}
+use lib.Dec.{ltb}
 use lib.ListN.{length, drop, replicate}
-use borrow.Author.Tests.{lt-ltb, le-ltb}
-use Rattle.theory.specs.Letters.{words_of}
-use Rattle.theory.specs.Refusals.{Refusal as FirstCause, text_refusal}
+use borrow.Author.Tests.{le-ltb}
+use Rattle.std.specs.Prelude.{⊤}
+use Rattle.std.specs.declared.result.Result.{Result}
+use Rattle.std.specs.declared.result.Result.TheVariants.{Ok, Err}
+use Rattle.theory.specs.Letters.{letters_in, words_of}
+use Rattle.theory.specs.Refusals.{Refusal as FirstCause, or_else, refused_if, text_refusal}
 use Rattle.theory.specs.TableRefusals.{is_lent, cell_refusal, member_refusal}
 use Rattle.theory.specs.Tables.{cell, is_accepted}
 use Rattle.theory.proofs.RefusalLaws.{alphabet_in}
@@ -25,13 +30,11 @@ use Rattle.theory.proofs.Main.{member_iff_reads_back}
 use Rattle.cells.specs.Filled.{filled}
 use Rattle.cells.proofs.FillTurn.{length_filled, filled_drop}
 use Rattle.refusals.specs.declared.Refusal.{Refusal}
-use Rattle.refusals.specs.Given.{given_as, given}
-use Rattle.lists.specs.declared.Scanned.{Scanned}
-use Rattle.lists.specs.declared.Scanned.TheVariants.{Fine as ScannedFine, Refused as ScannedRefused}
-use Rattle.lists.specs.Scans.{scanned_as}
-use Rattle.members.specs.Members.{query_word, answer_for, answer_as, cells_for, cells_after, MemberOutcome}
-use Rattle.members.specs.declared.Answer.{Answer}
-use Rattle.members.specs.declared.Answer.TheVariants.{Refused, Inside, Outside}
+use Rattle.refusals.specs.declared.Cause.TheVariants.{Work}
+use Rattle.refusals.specs.Given.{unless, unless_short}
+use Rattle.refusals.proofs.UnlessLaws.{unless_ok, unless_err, short_unless}
+use Rattle.refusals.proofs.StageLaws.{err_first, ok_next}
+use Rattle.members.specs.Members.{query_word, answer_as, cells_for, cells_after, MemberOutcome}
 use Rattle.rooms.proofs.UniteLaws.{drop_behind}
 use Rattle.folds.specs.Causes.{rows_of, work_of}
 use Rattle.folds.specs.Folds.{Cleared}
@@ -67,68 +70,64 @@ filled_twice a b v cells =
 -- ── Refusals ──
 
 module _ (n : ℕ) (list query table work : List ℕ) where
+  -- the stages: the texts, the list's rows, the work cells
+  abbrev by_texts : Option FirstCause
+  by_texts = texts_refusal n list query
+
+  abbrev by_rows : ℕ → Option FirstCause
+  by_rows rows = refused_if (ltb (length table) (rows * (2 * n))) 6 0
+
+  abbrev by_work : Option FirstCause
+  by_work = refused_if (ltb (length work) (asked_work list query)) 7 (asked_work list query)
+
   -- what is said where something is refused
-  refused : (c : FirstCause) {r : Refusal} → ask_refusal n list query (length table) (length work) ≡ some c → r ≡ given c
-      → AskOutcome n list query table work (Refused r) table work
-  refused c {r} e g =
-      subst (λ o. OutcomeFor n list query table work o (Refused r) table work) (sym e) (ap Refused g, refl, refl)
+  refused : {r : Refusal} → Err r ≡ unless (ask_refusal n list query (length table) (length work)) (tt {0})
+      → AskOutcome n list query table work (Err r) table work
+  refused {r} e =
+      let q = unless_err (ask_refusal n list query (length table) (length work)) (tt {0}) e in
+      subst (λ o. OutcomeFor n list query table work o (Err r) table work) (sym q.1) (ap Err q.2, refl, refl)
 
-  pub scan_fine : {s : Scanned} → s ≡ scanned_as (texts_refusal n list query) → s ≡ ScannedFine → texts_refusal n list query ≡ none
-  scan_fine {s} e f = go (texts_refusal n list query) (sym f ∙ e)
-    where
-      go : (o : Option FirstCause) → ScannedFine ≡ scanned_as o → o ≡ none
-      go none z = refl
-      go (some c) z = absurd (let y : ◌≡◌ {A = ℕ} 0 1 = cc in omega arith)
-
-  pub scan_refused : {s : Scanned} {r : Refusal} → s ≡ scanned_as (texts_refusal n list query) → s ≡ ScannedRefused r
-      → AskOutcome n list query table work (Refused r) table work
+  pub texts_refused : {r : Refusal} → Err r ≡ unless by_texts (tt {0}) → AskOutcome n list query table work (Err r) table work
   unfolding ask_refusal
-  scan_refused {s} {r} e f = go (texts_refusal n list query) refl (sym f ∙ e)
-    where
-      go : (o : Option FirstCause) → texts_refusal n list query ≡ o → ScannedRefused r ≡ scanned_as o
-          → AskOutcome n list query table work (Refused r) table work
-      go none o z = absurd (let y : ◌≡◌ {A = ℕ} 0 1 = cc in omega arith)
-      go (some c) o z = refused c (rw o) cc
+  texts_refused e = refused (err_first by_texts (tt {0}) (tt {0}) (or_else (by_rows (rows_of list)) by_work) e)
 
-  -- ── 6 and 7 ──
+  -- the texts are fine: rows and work cells decide
+  module _ {u : ⊤} (a : Ok u ≡ unless by_texts (tt {0})) {letters : ℕ} (count : letters ≡ letters_in list) where
+    abbrev rows : ℕ
+    rows = letters + 1
 
-  module _ (fine : texts_refusal n list query ≡ none) {rows : ℕ} (is : rows ≡ rows_of list) where
+    is : rows ≡ rows_of list
+    is = ap (λ k. k + 1) count
+
     list_good : text_refusal n true list ≡ none
-    list_good = (texts_fine n list query fine).0
+    list_good = (texts_fine n list query (unless_ok by_texts (tt {0}) a).0).0
 
-    pub few : rows ≤ 1048577
-    few = omega (arith, is, rows_few n list list_good)
+    pub rows_asks : (n ≤ 26) × (rows ≤ 1048577)
+    rows_asks = ((alphabet_in n (text_alphabet n true list list_good)).1, omega (arith, is, rows_few n list list_good))
 
-    pub small : (n ≤ 26) × (rows * (2 * n) ≤ 1048577 * 52)
-    small =
-        let most : n ≤ 26 = (alphabet_in n (text_alphabet n true list list_good)).1 in
-        (most, omega (arith, mul-le-mul_right (2 * n) few, most))
-
-    short : length table < rows * (2 * n) → length table < rows_of list * (2 * n)
-    short l = subst (λ k. length table < k * (2 * n)) is l
-
-    enough : rows * (2 * n) ≤ length table → rows_of list * (2 * n) ≤ length table
-    enough l = subst (λ k. k * (2 * n) ≤ length table) is l
-
-    pub six : {r : Refusal} → length table < rows * (2 * n) → r ≡ given_as 6 0
-        → AskOutcome n list query table work (Refused r) table work
+    then_lent : {x : Result ⊤ Refusal} → x ≡ unless (or_else (by_rows (rows_of list)) by_work) (tt {0})
+        → x ≡ unless (ask_refusal n list query (length table) (length work)) (tt {0})
     unfolding ask_refusal
-    six l g = refused (record { number = 6; place = 0 }) (rw (fine, lt-ltb (length table) (rows_of list * (2 * n)) (short l))) g
+    then_lent e = ok_next by_texts (tt {0}) (tt {0}) (or_else (by_rows (rows_of list)) by_work) a e
 
-    module _ {needed : ℕ} (asked : needed ≡ max (8 * rows) (length query)) where
-      needs : needed ≡ asked_work list query
-      needs = asked ∙ ap (λ k. max (8 * k) (length query)) is
+    rows_are : unless (by_rows rows) (tt {0}) ≡ unless (by_rows (rows_of list)) (tt {0})
+    rows_are = ap (λ k. unless (by_rows k) (tt {0})) is
 
-      pub seven : {r : Refusal} → rows * (2 * n) ≤ length table → length work < needed → r ≡ given_as 7 needed
-          → AskOutcome n list query table work (Refused r) table work
-      unfolding ask_refusal
-      seven a l g =
-          refused (record { number = 7; place = asked_work list query })
-          (rw (fine, le-ltb (length table) (rows_of list * (2 * n)) (enough a), lt-ltb (length work) (asked_work list query) (omega (arith, needs))))
-          (g ∙ ap (given_as 7) needs)
+    pub rows_refused : {r : Refusal} → Err r ≡ unless (by_rows rows) (tt {0}) → AskOutcome n list query table work (Err r) table work
+    rows_refused e = refused (then_lent (err_first (by_rows (rows_of list)) (tt {0}) (tt {0}) by_work (e ∙ rows_are)))
 
-      pub askable : rows * (2 * n) ≤ length table → needed ≤ length work → Askable n list query table work
-      askable a b = record { fine = fine; rows = enough a; room = omega (arith, needs) }
+    -- so are the rows: the work cells decide
+    pub work_refused : {v : ⊤} {needed : ℕ} {r : Refusal} → Ok v ≡ unless (by_rows rows) (tt {0}) → needed ≡ max (8 * rows) (length query)
+        → Err r ≡ unless_short Work needed (length work) → AskOutcome n list query table work (Err r) table work
+    work_refused {v} {needed} b asked e =
+        refused (then_lent (ok_next (by_rows (rows_of list)) (tt {0}) (tt {0}) by_work (b ∙ rows_are) (e ∙ work_is)))
+      where
+        needs : needed ≡ asked_work list query
+        needs = asked ∙ ap (λ k. max (8 * k) (length query)) is
+
+        work_is : unless_short Work needed (length work) ≡ unless by_work (tt {0})
+        work_is =
+            short_unless Work needed (length work) refl ∙ ap (λ k. unless (refused_if (ltb (length work) k) 7 k) (tt {0})) needs
 
 -- ── The answer ──
 
@@ -159,18 +158,18 @@ module _ {n : ℕ} {list query table work : List ℕ} (h : Askable n list query 
         rw (query_good, lent, le-ltb (length w₁) (length query) (omega (arith, long, h.room)), table_canonical_none n N t b.subgroup.canonical)
 
     -- what reading says is what the subgroup says
-    says : (a : Bool) → is_accepted (cell n N t) (query_word query) ≡ a → Says (words_of list) (query_word query) (cond a Inside Outside)
+    says : (a : Bool) → is_accepted (cell n N t) (query_word query) ≡ a → Says (words_of list) (query_word query) (Ok a)
     says true e = inl (refl, (member_iff_reads_back b.subgroup (query_word query)).0 e)
     says false e = inr (refl, λ m. true≢false (sym ((member_iff_reads_back b.subgroup (query_word query)).1 m) ∙ e))
 
-    pub answered : {r : Answer} {w₂ : List ℕ} → MemberOutcome n N t query w₁ r w₂ → AskOutcome n list query table work r t w₂
+    pub answered : {r : Result Bool Refusal} {w₂ : List ℕ} → MemberOutcome n N t query w₁ r w₂ → AskOutcome n list query table work r t w₂
     unfolding answer_as cells_after
     answered {r} {w₂} m =
         subst (λ o. OutcomeFor n list query table work o r t w₂)
         (sym (fine_ask n list query (length table) (length work) h.fine h.rows h.room)) done
       where
-        said : r ≡ cond (is_accepted (cell n N t) (query_word query)) Inside Outside
-        said = m.answer ∙ ap (answer_for n N t query) never_refused
+        said : r ≡ Ok (is_accepted (cell n N t) (query_word query))
+        said = m.answer ∙ ap (λ o. unless o (is_accepted (cell n N t) (query_word query))) never_refused
 
         left : w₂ ≡ filled (length query) 0 w₁
         left = m.cells ∙ ap (cells_for query w₁) never_refused

@@ -1,4 +1,5 @@
 -- The computed refusal of `ask` is the first cause that applies (`specs/Causes`).
+--   ask_numbered      : the causes have numbers of document 01's table
 --   ask_refusal_first : it is number k at place p exactly if that is the first cause
 --   ask_refusal_none  : it is none exactly if no cause applies
 --   ask_fine          : where it is none the texts are fine and both buffers are large enough; fine_ask : and the other way
@@ -20,10 +21,15 @@ use Rattle.theory.specs.Refusals.{
   text_limit,
   Cause1,
   Cause2,
+  Cause3,
+  Cause4,
   Cause5,
+  Cause6,
+  CauseShort,
   turn,
   First,
   Only,
+  Join,
   TextCause,
   is_alphabet,
   bytes_refusal,
@@ -35,11 +41,16 @@ use Rattle.theory.specs.Refusals.{
 use Rattle.theory.proofs.WordLaws.{by_test}
 use Rattle.theory.proofs.RefusalLaws.{and_true, alphabet_in, in_alphabet, refusal_first, refusal_none}
 use Rattle.theory.proofs.TableRefusalLaws.{Verdict, Decides, decided_first, decided_none, join, only_if, else_none, unrefused}
+use Rattle.refusals.proofs.NumberLaws.{Numbered, numbered_only, numbered_join}
 use Rattle.folds.specs.Causes.{rows_of}
 use Rattle.asks.specs.Causes.{asked_work, ByteCause, OfTwo, TextsCause, AskCause, texts_refusal, ask_refusal}
 use Rattle.asks.proofs.ScanLaws.{bytes_third}
 
 -- ── The bytes of one text ──
+
+byte_numbered : (n : ℕ) (lines : Bool) (text : List ℕ) (k p : ℕ) → ByteCause n lines text k p → Numbered k
+byte_numbered n lines text k p c =
+    ⊎_elim (numbered_only 3 (Cause3 lines text) refl) (numbered_only 4 (Cause4 n text) refl) c
 
 module _ (n : ℕ) (lines : Bool) (text : List ℕ) (good : is_alphabet n ≡ true) (short : length text ≤ text_limit) where
   -- what a text whose alphabet and length are fine is refused for
@@ -196,6 +207,12 @@ module _ (n : ℕ) (list query : List ℕ) where
       (⊎_elim (λ x. omega (arith, ap turn x.0))
       (⊎_elim (λ x. omega (arith, bytes_turn k p x)) (λ x. omega (arith, ap turn x.0)))) c
 
+  texts_numbered : (k p : ℕ) → TextsCause n list query k p → Numbered k
+  texts_numbered k p c =
+      ⊎_elim (numbered_only 1 (Cause1 n) refl)
+      (⊎_elim (numbered_only 2 (λ q. Cause2 list q ⊎ Cause2 query q) refl)
+      (⊎_elim (⊎_elim (byte_numbered n true list k p) (λ x. byte_numbered n false query k p x.1)) (numbered_only 5 (Cause5 list) refl))) c
+
   texts_decide : Decides (TextsCause n list query) (texts_refusal n list query)
   unfolding texts_refusal
   texts_decide =
@@ -220,6 +237,18 @@ module _ (n : ℕ) (list query : List ℕ) where
         texts_decide
         (λ _. join (λ k p l q a b. omega (arith, ap turn a.0, ap turn b.0))
         (few_decides 6 0 (rows_of list * (2 * n)) cells) (λ _. few_decides 7 (asked_work list query) (asked_work list query) room))
+
+    -- the causes are some of document 01
+    pub ask_numbered : (k p : ℕ) → AskCause n list query cells room k p → Numbered k
+    ask_numbered k p c =
+        numbered_join (TextsCause n list query) (Join (Only 6 by_rows) (Only 7 by_work)) (texts_numbered k p)
+        (numbered_join (Only 6 by_rows) (Only 7 by_work) (numbered_only 6 by_rows refl) (numbered_only 7 by_work refl)) c
+      where
+        by_rows : ℕ → Type 0
+        by_rows = Cause6 n (rows_of list) cells
+
+        by_work : ℕ → Type 0
+        by_work = CauseShort (asked_work list query) room
 
     pub ask_refusal_first : (k p : ℕ)
         → (ask_refusal n list query cells room ≡ some (record { number = k; place = p })) ↔ First (AskCause n list query cells room) k p

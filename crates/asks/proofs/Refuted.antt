@@ -8,11 +8,14 @@
 --   table_left     : nor is the table left as it was (the empty list)
 -- Assumes nothing.
 use mathlib.Core.Path.{◌≡◌, refl, sym, ◌∙◌, ap}
+use mathlib.Core.Bool.{Bool, true, false}
 use mathlib.Core.Option.{none, some}
 use mathlib.Core.List.{List, [], ◌∷◌}
 use Prim.Native.Nat.{ℕ, ◌<◌}
 use native.Mathlib.Omega.{arith}
 use lib.ListN.{length, get_or, replicate}
+use Rattle.std.specs.declared.result.Result.{Result}
+use Rattle.std.specs.declared.result.Result.TheVariants.{Ok, Err}
 use Rattle.theory.specs.Words.{reduced_by, named, product, Member}
 use Rattle.theory.specs.Letters.{letter_bytes, place_in, letter_of, is_letter, words_of, letters_in}
 use Rattle.theory.specs.Refusals.{is_alphabet, byte_refusal, bytes_refusal, is_unended}
@@ -20,11 +23,10 @@ use Rattle.theory.specs.Tables.{cell}
 use Rattle.theory.specs.Texts.{bytes_from}
 use Rattle.cases.proofs.ExamplesHold.{examples_hold}
 use Rattle.cells.specs.Filled.{filled}
-use Rattle.refusals.specs.Given.{given_as}
+use Rattle.refusals.specs.Given.{number_of, refusal_at}
+use Rattle.refusals.specs.declared.Cause.TheVariants.{Alphabet, NoLetter, Beyond}
 use Rattle.refusals.specs.declared.Refusal.{Refusal}
 use Rattle.members.specs.Members.{query_word}
-use Rattle.members.specs.declared.Answer.{Answer}
-use Rattle.members.specs.declared.Answer.TheVariants.{Refused, Inside, Outside}
 use Rattle.asks.specs.Causes.{texts_refusal, ask_refusal}
 use Rattle.asks.specs.Asks.{AskOutcome}
 use Rattle.asks.proofs.Asks.{never_refuses, asked_refused, asked_answered, ask_exact}
@@ -54,8 +56,8 @@ empty_member : Member (words_of []) (query_word [])
 unfolding words_of product named reduced_by
 empty_member = record { numbers = []; listed = tt; reduces = refl }
 
-pub refuse_all : (r : Refusal) (table' work' : List ℕ) → AskOutcome 1 [] [] (lent 2) (lent 8) (Refused r) table' work' → ⊥
-refuse_all r table' work' h = never_refuses (asked_answered 1 [] [] (lent 2) (lent 8) (Refused r) table' work' h empty_fine).says refl
+pub refuse_all : (r : Refusal) (table' work' : List ℕ) → AskOutcome 1 [] [] (lent 2) (lent 8) (Err r) table' work' → ⊥
+refuse_all r table' work' h = never_refuses (asked_answered 1 [] [] (lent 2) (lent 8) (Err r) table' work' h empty_fine).says refl
 
 -- no alphabet; and a list refused by 4 with a query that 3 would refuse
 no_letters : (cells room : ℕ) → ask_refusal 0 [] [] cells room ≡ some (record { number = 1; place = 0 })
@@ -66,41 +68,41 @@ beyond : (cells room : ℕ) → ask_refusal 1 (98 ∷ 10 ∷ []) (49 ∷ []) cel
 unfolding ask_refusal texts_refusal is_alphabet byte_refusal bytes_refusal is_letter letter_of place_in letter_bytes
 beyond cells room = refl
 
-pub refuse_nothing : (table work : List ℕ) (r : Answer) (table' work' : List ℕ) → ((c : Refusal) → r ≡ Refused c → ⊥)
+pub refuse_nothing : (table work : List ℕ) (r : Result Bool Refusal) (table' work' : List ℕ) → ((c : Refusal) → r ≡ Err c → ⊥)
     → AskOutcome 0 [] [] table work r table' work' → ⊥
 refuse_nothing table work r table' work' out h =
-    out (given_as 1 0)
+    out (refusal_at Alphabet 0)
     (asked_refused 0 [] [] table work r table' work' h (record { number = 1; place = 0 }) (no_letters (length table) (length work))).0
 
 pub query_first : (table work table' work' : List ℕ)
-    → AskOutcome 1 (98 ∷ 10 ∷ []) (49 ∷ []) table work (Refused (given_as 3 0)) table' work' → ⊥
+    → AskOutcome 1 (98 ∷ 10 ∷ []) (49 ∷ []) table work (Err (refusal_at NoLetter 0)) table' work' → ⊥
 query_first table work table' work' h =
-    let four = asked_refused 1 (98 ∷ 10 ∷ []) (49 ∷ []) table work (Refused (given_as 3 0)) table' work' h in
-    let c : Refused (given_as 3 0) ≡ Refused (given_as 4 0) =
+    let four = asked_refused 1 (98 ∷ 10 ∷ []) (49 ∷ []) table work (Err (refusal_at NoLetter 0)) table' work' h in
+    let c : Err (refusal_at NoLetter 0) ≡ Err (refusal_at Beyond 0) =
     (four (record { number = 4; place = 0 }) (beyond (length table) (length work))).0 in
-    let same : given_as 3 0 ≡ given_as 4 0 = cc c in
-    let z : ◌≡◌ {A = ℕ} 3 4 = ap (λ (x : Refusal). x.number) same in omega arith
+    let same : refusal_at NoLetter 0 ≡ refusal_at Beyond 0 = cc c in
+    let z : ◌≡◌ {A = ℕ} 3 4 = ap (λ (x : Refusal). number_of x.cause) same in omega arith
 
-pub outside_all : (table' work' : List ℕ) → AskOutcome 1 [] [] (lent 2) (lent 8) Outside table' work' → ⊥
-outside_all table' work' h = (ask_exact 1 [] [] (lent 2) (lent 8) Outside table' work' h empty_fine).1.0 refl empty_member
+pub outside_all : (table' work' : List ℕ) → AskOutcome 1 [] [] (lent 2) (lent 8) (Ok false) table' work' → ⊥
+outside_all table' work' h = (ask_exact 1 [] [] (lent 2) (lent 8) (Ok false) table' work' h empty_fine).1.0 refl empty_member
 
 -- a is no member of the trivial subgroup
 letter_outside : Member (words_of []) (query_word (97 ∷ [])) → ⊥
 unfolding bytes_from letter_of place_in letter_bytes
 letter_outside = examples_hold.1.0.answers.1.0.0
 
-pub inside_all : (table' work' : List ℕ) → AskOutcome 1 [] (97 ∷ []) (lent 2) (lent 8) Inside table' work' → ⊥
+pub inside_all : (table' work' : List ℕ) → AskOutcome 1 [] (97 ∷ []) (lent 2) (lent 8) (Ok true) table' work' → ⊥
 inside_all table' work' h =
-    letter_outside ((ask_exact 1 [] (97 ∷ []) (lent 2) (lent 8) Inside table' work' h letter_fine).0.0 refl)
+    letter_outside ((ask_exact 1 [] (97 ∷ []) (lent 2) (lent 8) (Ok true) table' work' h letter_fine).0.0 refl)
 
-pub work_left : (table' work' : List ℕ) → get_or work' 8 0 ≡ 777 → AskOutcome 1 [] nine (lent 2) (lent 9) Outside table' work' → ⊥
+pub work_left : (table' work' : List ℕ) → get_or work' 8 0 ≡ 777 → AskOutcome 1 [] nine (lent 2) (lent 9) (Ok false) table' work' → ⊥
 unfolding filled letters_in
 work_left table' work' e h =
-    let d = asked_answered 1 [] nine (lent 2) (lent 9) Outside table' work' h nine_fine in
+    let d = asked_answered 1 [] nine (lent 2) (lent 9) (Ok false) table' work' h nine_fine in
     let z : ◌≡◌ {A = ℕ} 777 0 = sym e ∙ ap (λ l. get_or l 8 0) d.zeros in
     omega arith
 
-pub table_left : (r : Answer) (work' : List ℕ) → AskOutcome 1 [] [] (lent 2) (lent 8) r (lent 2) work' → ⊥
+pub table_left : (r : Result Bool Refusal) (work' : List ℕ) → AskOutcome 1 [] [] (lent 2) (lent 8) r (lent 2) work' → ⊥
 unfolding letters_in cell
 table_left r work' h =
     let d = asked_answered 1 [] [] (lent 2) (lent 8) r (lent 2) work' h empty_fine in

@@ -13,7 +13,10 @@ use Prim.Native.Nat.{ℕ, ◌*◌, ◌≤◌, ◌<◌}
 use native.Mathlib.Omega.{arith}
 use lib.Dec.{eqb, ltb}
 use lib.ListN.{length}
-use borrow.Author.Tests.{eq-eqb, ne_eqb, lt-ltb, le-ltb}
+use borrow.Author.Tests.{lt-ltb, le-ltb}
+use Rattle.std.specs.Prelude.{⊤}
+use Rattle.std.specs.declared.result.Result.{Result}
+use Rattle.std.specs.declared.result.Result.TheVariants.{Ok, Err}
 use Rattle.theory.specs.Letters.{is_letter, letter_of, line_end}
 use Rattle.theory.specs.Refusals.{
   Refusal as FirstCause,
@@ -27,21 +30,12 @@ use Rattle.theory.specs.Refusals.{
   refused_if,
   text_refusal,
 }
-use Rattle.theory.proofs.RefusalLaws.{Scanned as ScannedFrom, scanned}
-use Rattle.refusals.specs.Given.{given}
+use Rattle.theory.proofs.RefusalLaws.{Scanned as ScannedFrom, scanned, refusal_first}
+use Rattle.refusals.specs.Given.{number_of, given, unless}
 use Rattle.refusals.specs.declared.Refusal.{Refusal}
-use Rattle.lists.specs.Scans.{scanned_as}
-use Rattle.lists.specs.declared.Scanned.{Scanned}
-use Rattle.lists.specs.declared.Scanned.TheVariants.{Fine, Refused}
+use Rattle.refusals.proofs.UnlessLaws.{unless_ok, unless_err, err_unless}
+use Rattle.refusals.proofs.NumberLaws.{numbered_text}
 use Rattle.asks.specs.Causes.{texts_refusal}
-
--- ── The order ──
-
-pub turn_four : {k : ℕ} → k ≡ 4 → 3 ≡ turn k
-turn_four {k} e = sym (ap (λ b. cond b 3 k) (eq-eqb k 4 e))
-
-pub turn_other : {k : ℕ} → (k ≡ 4 → ⊥) → k ≡ turn k
-turn_other {k} e = sym (ap (λ b. cond b 3 k) (ne_eqb k 4 e))
 
 -- ── The bytes ──
 
@@ -72,6 +66,13 @@ bytes_third n lines text r e = go (bytes_refusal n lines 0 text) (scanned n line
 
 third : (r : FirstCause) → Third (some r) → turn r.number ≡ 3
 third r h = ⊎_elim (λ e. ap turn e) (λ e. ap turn e) (h r refl)
+
+-- a refusal that code holds tells its number
+number_is : (n : ℕ) (lines : Bool) (text : List ℕ) {r : Refusal} (x : (c : FirstCause) × (text_refusal n lines text ≡ some c) × (r ≡ given c))
+    → number_of r.cause ≡ x.0.number
+number_is n lines text x =
+    ap (λ (q : Refusal). number_of q.cause) x.2
+    ∙ numbered_text n lines text x.0.number x.0.place (refusal_first n lines text x.0 x.1).applies
 
 -- ── Of two texts ──
 
@@ -123,49 +124,51 @@ module _ (n : ℕ) (list query : List ℕ) where
 
   -- ── The answers ──
 
-  module _ {s t : Scanned} (e : s ≡ scanned_as (text_refusal n true list)) (f : t ≡ scanned_as (text_refusal n false query)) where
-    pub list_fine : s ≡ Fine → t ≡ scanned_as (texts_refusal n list query)
-    list_fine q = f ∙ go (text_refusal n true list) (text_refusal n false query) (sym q ∙ e) ∙ ap scanned_as of_both
-      where
-        go : (a b : Option FirstCause) → Fine ≡ scanned_as a → scanned_as b ≡ scanned_as (first_of a b)
-        go none b z = refl
-        go (some c) b z = absurd (let y : ◌≡◌ {A = ℕ} 0 1 = cc in omega arith)
+  abbrev of_list : Option FirstCause
+  of_list = text_refusal n true list
 
-    module _ {a : Refusal} (q : s ≡ Refused a) where
-      pub query_fine : t ≡ Fine → Refused a ≡ scanned_as (texts_refusal n list query)
-      query_fine p =
-          go (text_refusal n true list) (text_refusal n false query) (sym q ∙ e) (sym p ∙ f) ∙ ap scanned_as of_both
-        where
-          go : (x y : Option FirstCause) → Refused a ≡ scanned_as x → Fine ≡ scanned_as y → Refused a ≡ scanned_as (first_of x y)
-          go none y z w = absurd (let v : ◌≡◌ {A = ℕ} 0 1 = cc in omega arith)
-          go (some c) none z w = z
-          go (some c) (some d) z w = absurd (let v : ◌≡◌ {A = ℕ} 0 1 = cc in omega arith)
+  abbrev of_query : Option FirstCause
+  of_query = text_refusal n false query
 
-      module _ {b : Refusal} (p : t ≡ Refused b) {i j : ℕ} (u : i ≡ turn b.number) (v : j ≡ turn a.number) where
-        both : (z : Bool) → ltb i j ≡ z → cond z (Refused b) (Refused a) ≡ scanned_as (texts_refusal n list query)
-        both z l =
-            go (text_refusal n true list) (text_refusal n false query) (sym q ∙ e) (sym p ∙ f) ∙ ap scanned_as of_both
-          where
-            go : (x y : Option FirstCause) → Refused a ≡ scanned_as x → Refused b ≡ scanned_as y
-                → cond z (Refused b) (Refused a) ≡ scanned_as (first_of x y)
-            go none y g h = absurd (let k : ◌≡◌ {A = ℕ} 0 1 = cc in omega arith)
-            go (some c) none g h = absurd (let k : ◌≡◌ {A = ℕ} 0 1 = cc in omega arith)
-            go (some c) (some d) g h =
-                let first : a ≡ given c = cc g in
-                let second : b ≡ given d = cc h in
-                let below : i ≡ turn d.number = u ∙ ap (λ (x : Refusal). turn x.number) second in
-                let above : j ≡ turn c.number = v ∙ ap (λ (x : Refusal). turn x.number) first in
-                ap (λ k. cond z (Refused k) (Refused a)) second
-                ∙ ap (λ k. cond z (Refused (given d)) (Refused k)) first
-                ∙ split z c d
-                ∙ ap (λ k. scanned_as (cond k (some d) (some c))) (sym l ∙ ap (λ k. ltb k j) below ∙ ap (ltb (turn d.number)) above)
-              where
-                split : (z : Bool) (c d : FirstCause) → cond z (Refused (given d)) (Refused (given c)) ≡ scanned_as (cond z (some d) (some c))
-                split true c d = refl
-                split false c d = refl
+  abbrev of_texts : Option FirstCause
+  of_texts = texts_refusal n list query
 
-        pub query_before : i < j → Refused b ≡ scanned_as (texts_refusal n list query)
-        query_before l = both true (lt-ltb i j l)
+  pub list_fine : {u : ⊤} {x : Result ⊤ Refusal} → Ok u ≡ unless of_list (tt {0}) → x ≡ unless of_query (tt {0}) → x ≡ unless of_texts (tt {0})
+  list_fine e f =
+      f ∙ ap (λ o. unless o (tt {0})) (sym (ap (λ o. first_of o of_query) (unless_ok of_list (tt {0}) e).0) ∙ of_both)
 
-        pub list_before : j ≤ i → Refused a ≡ scanned_as (texts_refusal n list query)
-        list_before l = both false (le-ltb i j l)
+  module _ {a : Refusal} (e : Err a ≡ unless of_list (tt {0})) where
+    first : (c : FirstCause) × (of_list ≡ some c) × (a ≡ given c)
+    first = unless_err of_list (tt {0}) e
+
+    -- of both, where the list has one
+    some_first : of_texts ≡ first_of (some first.0) of_query
+    some_first = sym of_both ∙ ap (λ o. first_of o of_query) first.1
+
+    pub query_fine : {u : ⊤} → Ok u ≡ unless of_query (tt {0}) → Err a ≡ unless of_texts (tt {0})
+    query_fine f =
+        ap Err first.2
+        ∙ err_unless of_texts (tt {0}) (some_first ∙ ap (first_of (some first.0)) (unless_ok of_query (tt {0}) f).0)
+
+    module _ {b : Refusal} (f : Err b ≡ unless of_query (tt {0})) where
+      second : (d : FirstCause) × (of_query ≡ some d) × (b ≡ given d)
+      second = unless_err of_query (tt {0}) f
+
+      above : number_of a.cause ≡ first.0.number
+      above = number_is n true list first
+
+      below : number_of b.cause ≡ second.0.number
+      below = number_is n false query second
+
+      -- both have one: the turns tell which is given
+      picked : (t : Bool) → ltb (turn (number_of b.cause)) (turn (number_of a.cause)) ≡ t → of_texts ≡ cond t (some second.0) (some first.0)
+      picked t l =
+          some_first
+          ∙ ap (first_of (some first.0)) second.1
+          ∙ ap (λ u. cond u (some second.0) (some first.0)) (sym (λ i. ltb (turn (below i)) (turn (above i))) ∙ l)
+
+      pub query_before : turn (number_of b.cause) < turn (number_of a.cause) → Err b ≡ unless of_texts (tt {0})
+      query_before l = ap Err second.2 ∙ err_unless of_texts (tt {0}) (picked true (lt-ltb _ _ l))
+
+      pub list_before : turn (number_of a.cause) ≤ turn (number_of b.cause) → Err a ≡ unless of_texts (tt {0})
+      list_before l = ap Err first.2 ∙ err_unless of_texts (tt {0}) (picked false (le-ltb _ _ l))

@@ -1,5 +1,6 @@
 -- The computed refusal of `fold` is the first cause that applies (`specs/Causes`).
 --   fine_alphabet      : a text that is fine has an alphabet; rows_few : its rows are fewer than there are marks
+--   fold_numbered      : the causes have numbers of document 01's table
 --   fold_refusal_first : it is number k at place p exactly if that is the first cause
 --   fold_refusal_none  : it is none exactly if no cause applies
 --   fold_fine          : where it is none the text is fine and both buffers are large enough; fine_fold : and the other way
@@ -15,11 +16,12 @@ use native.Mathlib.Omega.{arith}
 use lib.Dec.{ltb}
 use lib.ListN.{length}
 use borrow.Author.Tests.{ltb-true, ltb-false, lt-ltb, le-ltb}
-use Rattle.theory.specs.Refusals.{text_limit, turn, First, Only, refused_if, text_refusal}
+use Rattle.theory.specs.Refusals.{text_limit, Cause6, CauseShort, turn, First, Only, Join, TextCause, refused_if, text_refusal}
 use Rattle.theory.specs.Tables.{absent}
 use Rattle.theory.proofs.RefusalLaws.{refusal_none, text_turn}
 use Rattle.theory.proofs.TextLaws.{letters_le}
 use Rattle.theory.proofs.TableRefusalLaws.{Decides, decided_first, decided_none, join, only_if, text_decides, else_none, unrefused}
+use Rattle.refusals.proofs.NumberLaws.{Numbered, numbered_only, numbered_join, numbered_text}
 use Rattle.folds.specs.Causes.{rows_of, work_of, FoldCause, lent_refusal, fold_refusal}
 
 -- ── A text that is fine ──
@@ -54,6 +56,18 @@ module _ (n : ℕ) (list : List ℕ) (cells room : ℕ) where
       (text_decides n true list)
       (λ _. join (λ k p l q a b. omega (arith, ap turn a.0, ap turn b.0))
       (few_decides 6 0 (rows_of list * (2 * n)) cells) (λ _. few_decides 7 (work_of list) (work_of list) room))
+
+  -- the causes are some of document 01
+  pub fold_numbered : (k p : ℕ) → FoldCause n list cells room k p → Numbered k
+  fold_numbered k p c =
+      numbered_join (TextCause n true list) (Join (Only 6 by_rows) (Only 7 by_work)) (numbered_text n true list k p)
+      (numbered_join (Only 6 by_rows) (Only 7 by_work) (numbered_only 6 by_rows refl) (numbered_only 7 by_work refl)) c
+    where
+      by_rows : ℕ → Type 0
+      by_rows = Cause6 n (rows_of list) cells
+
+      by_work : ℕ → Type 0
+      by_work = CauseShort (work_of list) room
 
   pub fold_refusal_first : (k p : ℕ)
       → (fold_refusal n list cells room ≡ some (record { number = k; place = p })) ↔ First (FoldCause n list cells room) k p

@@ -13,6 +13,8 @@ use native.Mathlib.Decide.{dec_lt}
 use native.Mathlib.Omega.{arith}
 use lib.ListN.{length}
 use borrow.Author.Tests.{lt-ltb, le-ltb}
+use Rattle.std.specs.declared.result.Result.{Result}
+use Rattle.std.specs.declared.result.Result.TheVariants.{Ok}
 use Rattle.theory.specs.Letters.{words_of}
 use Rattle.theory.specs.Refusals.{Refusal as FirstCause, text_refusal}
 use Rattle.theory.specs.Tables.{absent, Cells, cell}
@@ -26,11 +28,10 @@ use Rattle.engine.specs.Work.{Holds}
 use Rattle.engine.proofs.HoldLaws.{holds_first, holds_determined}
 use Rattle.tables.specs.Checks.{figures_as}
 use Rattle.rooms.specs.declared.Room.{Room}
+use Rattle.refusals.specs.declared.Refusal.{Refusal}
 use Rattle.lists.specs.declared.StartSize.{StartSize}
 use Rattle.folds.specs.declared.BuildSize.{BuildSize}
 use Rattle.folds.specs.declared.FoldFigures.{FoldFigures}
-use Rattle.folds.specs.declared.Folded.{Folded}
-use Rattle.folds.specs.declared.Folded.TheVariants.{Made}
 use Rattle.folds.specs.Causes.{rows_of, fold_refusal}
 use Rattle.folds.specs.Folds.{Cleared, Done, OutcomeFor, FoldOutcome}
 use Rattle.folds.specs.Rows.{Prepared, all_in, WordsIn, Foldable, Built}
@@ -151,7 +152,7 @@ module _ {n : ℕ} {list table work : List ℕ} {f g : FoldFigures} {t₁ w₁ t
           let b = k.folds x.0 x.1 x.2 x.3 in
           (a.0 ∙ sym b.0, a.1 ∙ sym b.1)
 
-pub fold_determined : (n : ℕ) (list table work : List ℕ) {r s : Folded} {table₁ work₁ table₂ work₂ : List ℕ}
+pub fold_determined : (n : ℕ) (list table work : List ℕ) {r s : Result FoldFigures Refusal} {table₁ work₁ table₂ work₂ : List ℕ}
     → FoldOutcome n list table work r table₁ work₁ → FoldOutcome n list table work s table₂ work₂
     → (r ≡ s) × (table₁ ≡ table₂) × (work₁ ≡ work₂)
 fold_determined n list table work {r} {s} {table₁} {work₁} {table₂} {work₂} =
@@ -161,7 +162,7 @@ fold_determined n list table work {r} {s} {table₁} {work₁} {table₂} {work�
         → OutcomeFor n list table work o r table₁ work₁ → OutcomeFor n list table work o s table₂ work₂
         → (r ≡ s) × (table₁ ≡ table₂) × (work₁ ≡ work₂)
     go none e h k = (
-      h.1 ∙ ap Made (same_figures e h.2 k.2) ∙ sym k.1,
+      h.1 ∙ ap Ok (same_figures e h.2 k.2) ∙ sym k.1,
       same_cells_lem e h.2 k.2,
       h.2.cleared.zeros ∙ sym k.2.cleared.zeros,
     )

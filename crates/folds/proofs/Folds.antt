@@ -1,5 +1,5 @@
 -- What a caller learns from an outcome of `fold` (document 01).
---   refused_by_first_cause        : a list is refused by a number at a place exactly if that is the first cause that applies
+--   refused_by_first_cause        : a list is refused by a cause at a place exactly if that is the first cause that applies
 --   refused_untouched             : and both buffers are as they were
 --   made_done                     : figures are given only where nothing is refused, and are those of `Done`
 --   every_list_folds              : where nothing is refused there are figures, and the table is the list's
@@ -17,6 +17,8 @@ use mathlib.Core.List.{List}
 use Prim.Native.Nat.{ℕ, ◌+◌, ◌≤◌}
 use native.Mathlib.Omega.{arith}
 use lib.ListN.{length}
+use Rattle.std.specs.declared.result.Result.{Result}
+use Rattle.std.specs.declared.result.Result.TheVariants.{Ok, Err}
 use Rattle.theory.specs.Words.{Member, SameSubgroup}
 use Rattle.theory.specs.Letters.{usual, letters_in, words_of}
 use Rattle.theory.specs.Refusals.{Refusal as FirstCause, First}
@@ -26,65 +28,67 @@ use Rattle.theory.specs.Basis.{rank_of}
 use Rattle.theory.specs.Subgroups.{TableOf, Prefix, EndsAlike}
 use Rattle.theory.proofs.FoldCounts.{folding_exists}
 use Rattle.theory.proofs.Main.{member_iff_reads_back, tables_equal_iff_same_subgroup, fold_counts, folds_at_most, prefixes_in_the_table}
-use Rattle.refusals.specs.Given.{given, given_as}
+use Rattle.refusals.specs.Given.{number_of, refusal_at, given}
+use Rattle.refusals.specs.declared.Cause.{Cause}
 use Rattle.refusals.specs.declared.Refusal.{Refusal}
+use Rattle.refusals.proofs.NumberLaws.{given_first, refusal_given}
 use Rattle.tables.specs.Checks.{figures_as}
 use Rattle.tables.specs.declared.Figures.{Figures}
 use Rattle.folds.specs.declared.FoldFigures.{FoldFigures}
-use Rattle.folds.specs.declared.Folded.{Folded}
-use Rattle.folds.specs.declared.Folded.TheVariants.{Refused, Made}
 use Rattle.folds.specs.Causes.{FoldCause, fold_refusal}
 use Rattle.folds.specs.Folds.{Done, OutcomeFor, FoldOutcome}
-use Rattle.folds.proofs.CauseLaws.{fold_refusal_first}
+use Rattle.folds.proofs.CauseLaws.{fold_numbered, fold_refusal_first}
 
 -- ── Refusals ──
 
-module _ (n : ℕ) (list table work : List ℕ) (r : Folded) (table' work' : List ℕ)
+module _ (n : ℕ) (list table work : List ℕ) (r : Result FoldFigures Refusal) (table' work' : List ℕ)
     (h : FoldOutcome n list table work r table' work') where
   -- an outcome, by the refusal that there is
   outcome : {o : Option FirstCause} → fold_refusal n list (length table) (length work) ≡ o → OutcomeFor n list table work o r table' work'
   outcome e = subst (λ o. OutcomeFor n list table work o r table' work') e h
 
-  refused : (c : Refusal) → r ≡ Refused c
-      → (fold_refusal n list (length table) (length work) ≡ some (record { number = c.number; place = c.place }))
+  refused : (c : Refusal) → r ≡ Err c
+      → (fold_refusal n list (length table) (length work) ≡ some (record { number = number_of c.cause; place = c.place }))
       × (table' ≡ table)
       × (work' ≡ work)
   refused c e = go (fold_refusal n list (length table) (length work)) refl
     where
       go : (o : Option FirstCause) → fold_refusal n list (length table) (length work) ≡ o
-          → (fold_refusal n list (length table) (length work) ≡ some (record { number = c.number; place = c.place }))
+          → (fold_refusal n list (length table) (length work) ≡ some (record { number = number_of c.cause; place = c.place }))
           × (table' ≡ table)
           × (work' ≡ work)
       go none q = let d = (outcome q).1 in let z : ◌≡◌ {A = ℕ} 0 1 = cc in absurd (omega arith)
       go (some f) q =
           let d = outcome q in
           let same : given f ≡ c = cc (d.0, e) in
-          let number : f.number ≡ c.number = ap (λ (b : Refusal). b.number) same in
-          let place : f.place ≡ c.place = ap (λ (b : Refusal). b.place) same in
-          (q ∙ ap some (λ i. record { number = number i; place = place i }), d.1, d.2)
+          let first = fold_refusal_first n list (length table) (length work) f.number f.place in
+          let numbered = fold_numbered n list (length table) (length work) f.number f.place (first.0 q).applies in
+          (q ∙ given_first f c.cause c.place numbered same, d.1, d.2)
 
-  pub refused_by_first_cause : (k p : ℕ)
-      → (r ≡ Refused (given_as k p)) ↔ First (FoldCause n list (length table) (length work)) k p
-  refused_by_first_cause k p =
-      let first = fold_refusal_first n list (length table) (length work) k p in
-      (λ e. first.0 (refused (given_as k p) e).0, λ c. (outcome (first.1 c)).0)
+  pub refused_by_first_cause : (cause : Cause) (p : ℕ)
+      → (r ≡ Err (refusal_at cause p)) ↔ First (FoldCause n list (length table) (length work)) (number_of cause) p
+  refused_by_first_cause cause p =
+      let first = fold_refusal_first n list (length table) (length work) (number_of cause) p in (
+        λ e. first.0 (refused (refusal_at cause p) e).0,
+        λ c. (outcome (first.1 c)).0 ∙ ap Err (refusal_given cause p),
+      )
 
-  pub refused_untouched : (c : Refusal) → r ≡ Refused c → (table' ≡ table) × (work' ≡ work)
+  pub refused_untouched : (c : Refusal) → r ≡ Err c → (table' ≡ table) × (work' ≡ work)
   refused_untouched c e = let q = refused c e in (q.1, q.2)
 
   pub every_list_folds : fold_refusal n list (length table) (length work) ≡ none
-      → (f : FoldFigures) × (r ≡ Made f) × TableOf n f.points table' (words_of list)
+      → (f : FoldFigures) × (r ≡ Ok f) × TableOf n f.points table' (words_of list)
   every_list_folds e = let d = outcome e in (d.0, d.1, d.2.subgroup)
 
 -- ── Figures and tables ──
 
 module _ (n : ℕ) (list table work : List ℕ) (f : FoldFigures) (table' work' : List ℕ)
-    (h : FoldOutcome n list table work (Made f) table' work') where
+    (h : FoldOutcome n list table work (Ok f) table' work') where
   pub made_done : (fold_refusal n list (length table) (length work) ≡ none) × Done n list table work f table' work'
   made_done = go (fold_refusal n list (length table) (length work)) refl h
     where
       go : (o : Option FirstCause) → fold_refusal n list (length table) (length work) ≡ o
-          → OutcomeFor n list table work o (Made f) table' work'
+          → OutcomeFor n list table work o (Ok f) table' work'
           → (fold_refusal n list (length table) (length work) ≡ none) × Done n list table work f table' work'
       go none e k =
           let same : k.0 ≡ f = cc k.1 in
@@ -121,8 +125,8 @@ module _ (n : ℕ) (list table work : List ℕ) (f : FoldFigures) (table' work' 
   fold_prefixes = prefixes_in_the_table made_done.1.subgroup
 
 pub folds_equal_iff_same_subgroup : (n : ℕ)
-    (us table work : List ℕ) (f : FoldFigures) (t t' : List ℕ) → FoldOutcome n us table work (Made f) t t'
-    → (ws room rest : List ℕ) (g : FoldFigures) (s s' : List ℕ) → FoldOutcome n ws room rest (Made g) s s'
+    (us table work : List ℕ) (f : FoldFigures) (t t' : List ℕ) → FoldOutcome n us table work (Ok f) t t'
+    → (ws room rest : List ℕ) (g : FoldFigures) (s s' : List ℕ) → FoldOutcome n ws room rest (Ok g) s s'
     → ((f.points ≡ g.points) × ((v y : ℕ) → cell n f.points t v y ≡ cell n g.points s v y))
     ↔ SameSubgroup (words_of us) (words_of ws)
 folds_equal_iff_same_subgroup n us table work f t t' h ws room rest g s s' k =

@@ -1,19 +1,22 @@
 -- What the parts of `fold` say, on plain values.
---   not_refused  : what is lent is enough
---   made_outcome, never_refused : the outcome of `fold_lent`
---   six, seven   : the refusals of `fold_text`; scan_refused : those of the list
+--   list_refused, rows_refused, work_refused : a refusal at a stage of `fold` is the answer
+--   rows_asks                                : a list that is fine has few rows
+--   made_outcome, never_refused              : the outcome of `fold_lent`
 -- Assumes nothing.
 use mathlib.Core.Path.{◌≡◌, refl, sym, ◌∙◌, ap, subst}
 use mathlib.Core.Bool.{true}
-use mathlib.Core.Option.{Option, none, some}
+use mathlib.Core.Option.{Option, none}
 use mathlib.Core.List.{List}
-use Prim.Native.Nat.{ℕ, ◌+◌, ◌-◌, ◌*◌, ◌≤◌, ◌<◌}
+use Prim.Native.Nat.{ℕ, ◌+◌, ◌-◌, ◌*◌, ◌≤◌}
 use native.Mathlib.Nat.{mul-le-mul_right}
 use native.Mathlib.Omega.{arith}
+use lib.Dec.{ltb}
 use lib.ListN.{length}
-use borrow.Author.Tests.{lt-ltb, le-ltb}
-use Rattle.theory.specs.Letters.{words_of, usual}
-use Rattle.theory.specs.Refusals.{Refusal as FirstCause, is_alphabet, text_refusal}
+use Rattle.std.specs.Prelude.{⊤}
+use Rattle.std.specs.declared.result.Result.{Result}
+use Rattle.std.specs.declared.result.Result.TheVariants.{Ok, Err}
+use Rattle.theory.specs.Letters.{letters_in, words_of, usual}
+use Rattle.theory.specs.Refusals.{Refusal as FirstCause, is_alphabet, or_else, refused_if, text_refusal}
 use Rattle.theory.specs.TableRefusals.{is_lent, check_refusal, cell_refusal}
 use Rattle.theory.specs.Tables.{cell}
 use Rattle.theory.specs.Basis.{rank_of}
@@ -27,78 +30,76 @@ use Rattle.theory.proofs.FoldCounts.{folding_exists}
 use Rattle.engine.proofs.TableExists.{list_short}
 use Rattle.theory.proofs.Main.{fold_counts, start_graph_sizes}
 use Rattle.refusals.specs.declared.Refusal.{Refusal}
-use Rattle.refusals.specs.Given.{given_as, given}
+use Rattle.refusals.specs.declared.Cause.TheVariants.{Work}
+use Rattle.refusals.specs.Given.{unless, unless_short}
+use Rattle.refusals.proofs.UnlessLaws.{unless_ok, unless_err, short_unless}
+use Rattle.refusals.proofs.StageLaws.{err_first, ok_next}
 use Rattle.lists.specs.declared.StartSize.{StartSize}
-use Rattle.lists.specs.declared.Scanned.{Scanned}
-use Rattle.lists.specs.declared.Scanned.TheVariants.{Refused as ScannedRefused}
-use Rattle.lists.specs.Scans.{scanned_as}
-use Rattle.tables.specs.declared.Checked.{Checked}
-use Rattle.tables.specs.declared.Checked.TheVariants.{Refused as CheckRefused, Counted}
 use Rattle.tables.specs.declared.Figures.{Figures}
 use Rattle.tables.specs.Checks.{figures_as, checked_as}
 use Rattle.folds.specs.declared.BuildSize.{BuildSize}
 use Rattle.folds.specs.declared.FoldFigures.{FoldFigures}
-use Rattle.folds.specs.declared.Folded.TheVariants.{Refused, Made}
 use Rattle.folds.specs.Causes.{rows_of, work_of, lent_refusal, fold_refusal}
 use Rattle.folds.specs.Folds.{Done, OutcomeFor, FoldOutcome}
 use Rattle.folds.specs.Rows.{Foldable, Built}
 use Rattle.folds.proofs.BuildLaws.{rows_few}
+use Rattle.folds.proofs.CauseLaws.{fine_fold}
 
 module _ (n : ℕ) (list table work : List ℕ) where
+  -- the stages: the list, its rows, its work cells
+  abbrev by_list : Option FirstCause
+  by_list = text_refusal n true list
+
+  abbrev by_rows : ℕ → Option FirstCause
+  by_rows rows = refused_if (ltb (length table) (rows * (2 * n))) 6 0
+
+  abbrev by_work : Option FirstCause
+  by_work = refused_if (ltb (length work) (work_of list)) 7 (work_of list)
+
   -- what is said of a list that is refused
-  refused : (c : FirstCause) {r : Refusal} → fold_refusal n list (length table) (length work) ≡ some c → r ≡ given c
-      → FoldOutcome n list table work (Refused r) table work
-  refused c {r} e g =
-      subst (λ o. OutcomeFor n list table work o (Refused r) table work) (sym e) (ap Refused g, refl, refl)
+  refused : {r : Refusal} → Err r ≡ unless (fold_refusal n list (length table) (length work)) (tt {0}) → FoldOutcome n list table work (Err r) table work
+  refused {r} e =
+      let q = unless_err (fold_refusal n list (length table) (length work)) (tt {0}) e in
+      subst (λ o. OutcomeFor n list table work o (Err r) table work) (sym q.1) (ap Err q.2, refl, refl)
 
-  pub scan_refused : {s : Scanned} {r : Refusal} → s ≡ scanned_as (text_refusal n true list) → s ≡ ScannedRefused r
-      → FoldOutcome n list table work (Refused r) table work
+  pub list_refused : {r : Refusal} → Err r ≡ unless by_list (tt {0}) → FoldOutcome n list table work (Err r) table work
   unfolding fold_refusal
-  scan_refused {s} {r} e f = go (text_refusal n true list) refl (sym f ∙ e)
-    where
-      go : (o : Option FirstCause) → text_refusal n true list ≡ o → ScannedRefused r ≡ scanned_as o
-          → FoldOutcome n list table work (Refused r) table work
-      go none o z = absurd (let y : ◌≡◌ {A = ℕ} 0 1 = cc in omega arith)
-      go (some c) o z = refused c (rw o) cc
+  list_refused e = refused (err_first by_list (tt {0}) (tt {0}) (lent_refusal n list (length table) (length work)) e)
 
-  -- ── 6 and 7 ──
+  -- the list is fine: rows and work cells decide
+  module _ {u : ⊤} (a : Ok u ≡ unless by_list (tt {0})) {letters : ℕ} (count : letters ≡ letters_in list) where
+    abbrev rows : ℕ
+    rows = letters + 1
 
-  module _ (fine : text_refusal n true list ≡ none) {rows : ℕ} (is : rows ≡ rows_of list) where
-    sizes : (1 ≤ n) × (n ≤ 26)
-    sizes = alphabet_in n (text_alphabet n true list fine)
+    is : rows ≡ rows_of list
+    is = ap (λ k. k + 1) count
 
-    pub few : rows ≤ 1048577
-    few = omega (arith, is, rows_few n list fine)
+    fine : by_list ≡ none
+    fine = (unless_ok by_list (tt {0}) a).0
 
-    pub small : (n ≤ 26) × (rows * (2 * n) ≤ 1048577 * 52)
-    small = (sizes.1, omega (arith, mul-le-mul_right (2 * n) few, sizes.1))
+    pub rows_asks : (n ≤ 26) × (rows ≤ 1048577)
+    rows_asks = ((alphabet_in n (text_alphabet n true list fine)).1, omega (arith, is, rows_few n list fine))
 
-    short : length table < rows * (2 * n) → length table < rows_of list * (2 * n)
-    short l = subst (λ k. length table < k * (2 * n)) is l
-
-    enough : rows * (2 * n) ≤ length table → rows_of list * (2 * n) ≤ length table
-    enough l = subst (λ k. k * (2 * n) ≤ length table) is l
-
-    pub six : {r : Refusal} → length table < rows * (2 * n) → r ≡ given_as 6 0 → FoldOutcome n list table work (Refused r) table work
+    then_lent : {x : Result ⊤ Refusal} → x ≡ unless (or_else (by_rows (rows_of list)) by_work) (tt {0})
+        → x ≡ unless (fold_refusal n list (length table) (length work)) (tt {0})
     unfolding fold_refusal lent_refusal
-    six l g = refused (record { number = 6; place = 0 }) (rw (fine, lt-ltb (length table) (rows_of list * (2 * n)) (short l))) g
+    then_lent e = ok_next by_list (tt {0}) (tt {0}) (or_else (by_rows (rows_of list)) by_work) a e
 
-    pub seven : {r : Refusal} → rows * (2 * n) ≤ length table → length work < 8 * rows → r ≡ given_as 7 (8 * rows)
-        → FoldOutcome n list table work (Refused r) table work
-    unfolding fold_refusal lent_refusal
-    seven a l g =
-        refused (record { number = 7; place = work_of list })
-        (rw (fine, le-ltb (length table) (rows_of list * (2 * n)) (enough a), lt-ltb (length work) (work_of list) (omega (arith, is))))
-        (g ∙ ap (λ k. given_as 7 (8 * k)) is)
+    rows_are : unless (by_rows rows) (tt {0}) ≡ unless (by_rows (rows_of list)) (tt {0})
+    rows_are = ap (λ k. unless (by_rows k) (tt {0})) is
 
-    pub foldable : rows * (2 * n) ≤ length table → 8 * rows ≤ length work → Foldable n list table work
-    foldable a b = record { fine = fine; rows = enough a; room = omega (arith, is) }
+    pub rows_refused : {r : Refusal} → Err r ≡ unless (by_rows rows) (tt {0}) → FoldOutcome n list table work (Err r) table work
+    rows_refused e = refused (then_lent (err_first (by_rows (rows_of list)) (tt {0}) (tt {0}) by_work (e ∙ rows_are)))
 
--- what is lent is enough
-pub not_refused : {n : ℕ} {list table work : List ℕ} → Foldable n list table work → fold_refusal n list (length table) (length work) ≡ none
-unfolding fold_refusal lent_refusal
-not_refused {n} {list} {table} {work} h =
-    rw (h.fine, le-ltb (length table) (rows_of list * (2 * n)) h.rows, le-ltb (length work) (work_of list) h.room)
+    -- so are the rows: the work cells decide
+    pub work_refused : {v : ⊤} {r : Refusal} → Ok v ≡ unless (by_rows rows) (tt {0}) → Err r ≡ unless_short Work (8 * rows) (length work)
+        → FoldOutcome n list table work (Err r) table work
+    work_refused b e = refused (then_lent (ok_next (by_rows (rows_of list)) (tt {0}) (tt {0}) by_work (b ∙ rows_are) (e ∙ work_is)))
+      where
+        work_is : unless_short Work (8 * rows) (length work) ≡ unless by_work (tt {0})
+        work_is =
+            short_unless Work (8 * rows) (length work) refl
+            ∙ ap (λ k. unless (refused_if (ltb (length work) (8 * k)) 7 (8 * k)) (tt {0})) is
 
 -- ── The fold ──
 
@@ -126,22 +127,21 @@ module _ {n : ℕ} {list table work : List ℕ} (h : Foldable n list table work)
         in_lent n N (length t) b.subgroup.based (omega (arith, b.cleared.used, rows_few n list h.fine))
         (omega (arith, mul-le-mul_right (2 * n) b.cleared.used, h.rows, b.cleared.same))
 
-    counted : checked_as n N t ≡ Counted (figures_as n N t)
-    unfolding checked_as check_refusal cell_refusal
-    counted = rw (alphabet, lent, table_canonical_none n N t b.subgroup.canonical)
+    unrefused_check : check_refusal n N t ≡ none
+    unfolding check_refusal cell_refusal
+    unrefused_check = rw (alphabet, lent, table_canonical_none n N t b.subgroup.canonical)
 
-    pub never_refused : {r : Checked} {q : Refusal} → r ≡ checked_as n N t → r ≡ CheckRefused q → ⊥
-    never_refused {r} {q} e f = impossible (sym f ∙ e ∙ counted)
-      where
-        impossible : CheckRefused q ≡ Counted (figures_as n N t) → ⊥
-        impossible z = absurd (let y : ◌≡◌ {A = ℕ} 0 1 = cc in omega arith)
+    pub never_refused : {q : Refusal} → Err q ≡ checked_as n N t → ⊥
+    unfolding checked_as
+    never_refused e =
+        let c = unless_err (check_refusal n N t) (figures_as n N t) e in
+        let same = sym unrefused_check ∙ c.1 in
+        let y : ◌≡◌ {A = ℕ} 0 1 = cc in omega arith
 
-    module _ {r : Checked} {cs : Figures} (e : r ≡ checked_as n N t) (f : r ≡ Counted cs) where
+    module _ {cs : Figures} (e : Ok cs ≡ checked_as n N t) where
       figures : cs ≡ figures_as n N t
-      figures = inside (sym f ∙ e ∙ counted)
-        where
-          inside : {a d : Figures} → Counted a ≡ Counted d → a ≡ d
-          inside z = cc
+      unfolding checked_as
+      figures = (unless_ok (check_refusal n N t) (figures_as n N t) e).1
 
       rank_is : cs.rank ≡ rank_of (cell n N t) N (usual n)
       unfolding figures_as
@@ -173,10 +173,10 @@ module _ {n : ℕ} {list table work : List ℕ} (h : Foldable n list table work)
 
       pub made_outcome
           : FoldOutcome n list table work
-          (Made (record { points = N; counts = cs; start = st; merging = st.points - N; closing = st.edges + 1 - st.points - cs.rank })) t w
+          (Ok (record { points = N; counts = cs; start = st; merging = st.points - N; closing = st.edges + 1 - st.points - cs.rank })) t w
       unfolding ws
       made_outcome =
-          subst (λ o. OutcomeFor n list table work o (Made made) t w) (sym (not_refused h)) (made, refl, done)
+          subst (λ o. OutcomeFor n list table work o (Ok made) t w) (sym (fine_fold n list (length table) (length work) h.fine h.rows h.room)) (made, refl, done)
         where
           made : FoldFigures
           made = record { points = N; counts = cs; start = st; merging = st.points - N; closing = st.edges + 1 - st.points - cs.rank }

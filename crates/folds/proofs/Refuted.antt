@@ -18,6 +18,7 @@ use Prim.Native.Nat.{ℕ, ◌<◌}
 use native.Mathlib.Omega.{arith}
 use lib.IntN.{pos}
 use lib.ListN.{length, get_or, replicate}
+use Rattle.std.specs.declared.result.Result.TheVariants.{Ok, Err}
 use Rattle.theory.specs.Words.{inv, put, reduced_by, named, product, Member}
 use Rattle.theory.specs.Letters.{letter_bytes, place_in, letter_of, on_first, words_of, letters_in}
 use Rattle.theory.specs.Refusals.{is_alphabet, bytes_refusal, is_unended, text_refusal}
@@ -29,7 +30,6 @@ use Rattle.cases.proofs.ExamplesHold.{examples_hold}
 use Rattle.cells.specs.Filled.{filled}
 use Rattle.refusals.specs.declared.Refusal.{Refusal}
 use Rattle.folds.specs.declared.FoldFigures.{FoldFigures}
-use Rattle.folds.specs.declared.Folded.TheVariants.{Refused, Made}
 use Rattle.folds.specs.Causes.{lent_refusal, fold_refusal}
 use Rattle.folds.specs.Folds.{FoldOutcome}
 use Rattle.folds.proofs.CauseLaws.{fold_refusal_none}
@@ -43,19 +43,19 @@ unfolding fold_refusal lent_refusal text_refusal is_alphabet bytes_refusal is_un
 bare_fine = refl
 
 pub refuse_all : (r : Refusal) (table' work' : List ℕ)
-    → FoldOutcome 2 [] (replicate 4 777) (replicate 8 777) (Refused r) table' work' → ⊥
+    → FoldOutcome 2 [] (replicate 4 777) (replicate 8 777) (Err r) table' work' → ⊥
 refuse_all r table' work' h =
-    let e = (every_list_folds 2 [] (replicate 4 777) (replicate 8 777) (Refused r) table' work' h bare_fine).1 in
+    let e = (every_list_folds 2 [] (replicate 4 777) (replicate 8 777) (Err r) table' work' h bare_fine).1 in
     let z : ◌≡◌ {A = ℕ} 0 1 = cc in omega arith
 
 pub refuse_nothing : (table work : List ℕ) (f : FoldFigures) (table' work' : List ℕ)
-    → FoldOutcome 0 [] table work (Made f) table' work' → ⊥
+    → FoldOutcome 0 [] table work (Ok f) table' work' → ⊥
 refuse_nothing table work f table' work' h =
     let e = (made_done 0 [] table work f table' work' h).0 in
     (fold_refusal_none 0 [] (length table) (length work)).0 e 1 0 (inl (refl, λ a. omega (arith, a.0)))
 
 pub table_untouched : (work : List ℕ) (f : FoldFigures) (work' : List ℕ)
-    → FoldOutcome 1 [] (777 ∷ 777 ∷ []) work (Made f) (777 ∷ 777 ∷ []) work' → ⊥
+    → FoldOutcome 1 [] (777 ∷ 777 ∷ []) work (Ok f) (777 ∷ 777 ∷ []) work' → ⊥
 unfolding letters_in cell
 table_untouched work f work' h =
     let d = (made_done 1 [] (777 ∷ 777 ∷ []) work f (777 ∷ 777 ∷ []) work' h).1 in
@@ -64,7 +64,7 @@ table_untouched work f work' h =
     omega (arith, one, low)
 
 pub work_untouched : (table : List ℕ) (f : FoldFigures) (table' : List ℕ)
-    → FoldOutcome 1 [] table (replicate 8 777) (Made f) table' (replicate 8 777) → ⊥
+    → FoldOutcome 1 [] table (replicate 8 777) (Ok f) table' (replicate 8 777) → ⊥
 unfolding filled letters_in
 work_untouched table f table' h =
     let d = (made_done 1 [] table (replicate 8 777) f table' (replicate 8 777) h).1 in
@@ -72,7 +72,7 @@ work_untouched table f table' h =
     omega arith
 
 pub rows_left : (table work : List ℕ) (f : FoldFigures) (work' : List ℕ) → f.points ≡ 1
-    → FoldOutcome 1 (bytes "a\n") table work (Made f) (0 ∷ 0 ∷ 777 ∷ 777 ∷ []) work' → ⊥
+    → FoldOutcome 1 (bytes "a\n") table work (Ok f) (0 ∷ 0 ∷ 777 ∷ 777 ∷ []) work' → ⊥
 unfolding letters_in bytes_from
 rows_left table work f work' e h =
     let d = (made_done 1 (bytes "a\n") table work f (0 ∷ 0 ∷ 777 ∷ 777 ∷ []) work' h).1 in
@@ -82,7 +82,7 @@ rows_left table work f work' e h =
 -- ── Tables ──
 
 module _ (n : ℕ) (list table work : List ℕ) (f : FoldFigures) (table' work' : List ℕ)
-    (h : FoldOutcome n list table work (Made f) table' work') (N : ℕ) (e : f.points ≡ N) (q : List ℕ) where
+    (h : FoldOutcome n list table work (Ok f) table' work') (N : ℕ) (e : f.points ≡ N) (q : List ℕ) where
   fails : Member (words_of list) q → is_accepted (cell n N table') q ≡ false → ⊥
   fails m a =
       true≢false (sym ((fold_exact n list table work f table' work' h q).1 m) ∙ ap (λ k. is_accepted (cell n k table') q) e ∙ a)
@@ -100,7 +100,7 @@ unfolding bytes_from letter_of place_in letter_bytes words_of on_first product n
 b_member = record { numbers = pos 2 ∷ []; listed = (omega arith, tt); reduces = refl }
 
 pub one_table : (table work : List ℕ) (f : FoldFigures) (work' : List ℕ) → f.points ≡ 1
-    → FoldOutcome 1 (bytes "a\n") table work (Made f) (replicate 4 absent) work' → ⊥
+    → FoldOutcome 1 (bytes "a\n") table work (Ok f) (replicate 4 absent) work' → ⊥
 unfolding bytes_from letter_of place_in letter_bytes is_accepted end_of reduced_by put cell
 one_table table work f work' e h = fails 1 (bytes "a\n") table work f (replicate 4 absent) work' h 1 e (word "a") a_member refl
 
@@ -109,7 +109,7 @@ abbrev loop : List ℕ
 loop = 0 ∷ 0 ∷ replicate 10 absent
 
 pub first_word : (table work : List ℕ) (f : FoldFigures) (work' : List ℕ) → f.points ≡ 1
-    → FoldOutcome 2 (bytes "a\nb\n") table work (Made f) loop work' → ⊥
+    → FoldOutcome 2 (bytes "a\nb\n") table work (Ok f) loop work' → ⊥
 unfolding bytes_from letter_of place_in letter_bytes is_accepted end_of reduced_by put cell
 first_word table work f work' e h = fails 2 (bytes "a\nb\n") table work f loop work' h 1 e (word "b") b_member refl
 
@@ -118,7 +118,7 @@ abbrev other : List ℕ
 other = absent ∷ absent ∷ 0 ∷ 0 ∷ replicate 12 absent
 
 pub base_trimmed : (table work : List ℕ) (f : FoldFigures) (work' : List ℕ) → f.points ≡ 1
-    → FoldOutcome 2 hair_at_base.text table work (Made f) other work' → ⊥
+    → FoldOutcome 2 hair_at_base.text table work (Ok f) other work' → ⊥
 unfolding bytes_from letter_of place_in letter_bytes is_accepted end_of reduced_by put cell
 base_trimmed table work f work' e h =
     admits 2 hair_at_base.text table work f other work' h 1 e (word "b")
@@ -127,7 +127,7 @@ base_trimmed table work f work' e h =
 -- ── Figures ──
 
 pub invented_folds : (table work : List ℕ) (f : FoldFigures) (table' work' : List ℕ) → ((f.merging ≡ 3) × (f.closing ≡ 1) → ⊥)
-    → FoldOutcome 2 two_and_three.text table work (Made f) table' work' → ⊥
+    → FoldOutcome 2 two_and_three.text table work (Ok f) table' work' → ⊥
 invented_folds table work f table' work' e h =
     let x = examples_hold.1.1.1.0.folding in
     e ((made_done 2 two_and_three.text table work f table' work' h).1.folds x.0 3 1 x.1)
@@ -137,7 +137,7 @@ unfolding non_empty_words words_of bytes_from letter_of place_in letter_bytes on
 two_words = refl
 
 pub rank_as_given : (table work : List ℕ) (f : FoldFigures) (table' work' : List ℕ) → f.counts.rank ≡ 2
-    → FoldOutcome 2 twice.text table work (Made f) table' work' → ⊥
+    → FoldOutcome 2 twice.text table work (Ok f) table' work' → ⊥
 rank_as_given table work f table' work' e h =
     let x = examples_hold.1.1.1.1.0.folding in
     let d = (made_done 2 twice.text table work f table' work' h).1.folds x.0 1 1 x.1 in

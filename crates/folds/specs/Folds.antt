@@ -7,6 +7,8 @@
 -- The room of a fold is L + 1 rows. Assumes nothing.
 use Rattle.std.specs.Prelude.{◌≡◌, List, ℕ, ◌+◌, ◌*◌, ◌≤◌, ◌<◌, length, get_or, drop}
 use Rattle.std.proofs.Math.Option.{Option, none, some}
+use Rattle.std.specs.declared.result.Result.{Result}
+use Rattle.std.specs.declared.result.Result.TheVariants.{Ok, Err}
 use Rattle.theory.specs.Letters.{words_of}
 use Rattle.theory.specs.Tables.{absent}
 use Rattle.theory.specs.Graphs.{Graph, start_graph}
@@ -14,11 +16,10 @@ use Rattle.theory.specs.Folds.{CompleteFolding}
 use Rattle.theory.specs.Subgroups.{TableOf}
 use Rattle.theory.specs.Refusals.{Refusal as FirstCause}
 use Rattle.cells.specs.Filled.{filled}
+use Rattle.refusals.specs.declared.Refusal.{Refusal}
 use Rattle.refusals.specs.Given.{given}
 use Rattle.tables.specs.Checks.{figures_as}
 use Rattle.folds.specs.declared.FoldFigures.{FoldFigures}
-use Rattle.folds.specs.declared.Folded.{Folded}
-use Rattle.folds.specs.declared.Folded.TheVariants.{Refused, Made}
 use Rattle.folds.specs.Causes.{rows_of, fold_refusal}
 
 pub record Cleared (n R N : ℕ) (table work table' work' : List ℕ) : Type 0 where
@@ -43,10 +44,10 @@ pub record Done (n : ℕ) (list table work : List ℕ) (f : FoldFigures) (table'
   -- the folds of each kind
   pub folds : FoldsAs (words_of list) f.merging f.closing
 
-abbrev pub OutcomeFor : ℕ → List ℕ → List ℕ → List ℕ → Option FirstCause → Folded → List ℕ → List ℕ → Type 0
-OutcomeFor n list table work none r table' work' = (f : FoldFigures) × (r ≡ Made f) × Done n list table work f table' work'
-OutcomeFor n list table work (some c) r table' work' = (r ≡ Refused (given c)) × (table' ≡ table) × (work' ≡ work)
+abbrev pub OutcomeFor : ℕ → List ℕ → List ℕ → List ℕ → Option FirstCause → Result FoldFigures Refusal → List ℕ → List ℕ → Type 0
+OutcomeFor n list table work none r table' work' = (f : FoldFigures) × (r ≡ Ok f) × Done n list table work f table' work'
+OutcomeFor n list table work (some c) r table' work' = (r ≡ Err (given c)) × (table' ≡ table) × (work' ≡ work)
 
-abbrev pub FoldOutcome : ℕ → List ℕ → List ℕ → List ℕ → Folded → List ℕ → List ℕ → Type 0
+abbrev pub FoldOutcome : ℕ → List ℕ → List ℕ → List ℕ → Result FoldFigures Refusal → List ℕ → List ℕ → Type 0
 FoldOutcome n list table work r table' work' =
     OutcomeFor n list table work (fold_refusal n list (length table) (length work)) r table' work'

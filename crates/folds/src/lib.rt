@@ -1,19 +1,20 @@
 // Folding a list of words into the canonical table of its subgroup.
 #![tactic(auto)]
 
-ghost use Rattle.std.specs.Prelude.{◌≡◌, true};
-ghost use Rattle.std.proofs.Math.Option.{none};
-ghost use Rattle.theory.specs.Refusals.{text_refusal};
+ghost use Rattle.std.specs.Prelude.{◌≡◌, ◌*◌, ◌≤◌, ltb};
+ghost use Rattle.theory.specs.Refusals.{point_limit, refused_if};
+ghost use Rattle.refusals.specs.Given.{unless};
 ghost use Rattle.folds.specs.Folds.{Done, FoldOutcome};
 ghost use Rattle.folds.specs.Rows.{Prepared, WordsIn, Foldable, Built};
 
-use lists::{Scanned, StartSize};
-use refusals::Refusal;
+use cells::ABSENT;
+use lists::StartSize;
+use refusals::{Cause, Refusal, refuse};
 use rooms::Room;
-use tables::{Checked, Figures, Subgroup};
+use tables::{Figures, Subgroup};
 
 // The figures of a fold: points, edges with rank and index, the start graph's size, and the folds of each kind.
-#[derive(Clone, Copy)]
+#[derive(Clone, Copy, Debug, PartialEq, Eq)]
 pub struct FoldFigures {
     pub points: u64,
     pub counts: Figures,
@@ -23,21 +24,11 @@ pub struct FoldFigures {
 }
 
 // What building a table says: its points, and the size of the start graph.
-#[derive(Clone, Copy)]
+#[derive(Clone, Copy, Debug, PartialEq, Eq)]
 pub struct BuildSize {
     pub points: usize,
     pub start: StartSize,
 }
-
-// What folding says.
-#[derive(Clone, Copy)]
-pub enum Folded {
-    Refused(Refusal),
-    Made(FoldFigures),
-}
-
-// The absent mark.
-const ABSENT: u32 = 4294967295;
 
 // Takes every word of the list in, each as the part of the list where it starts. Answers the size of the start graph.
 fn take_words(table: &mut [u32], work: &mut [u32], room: Room, list: &[u8]) -> StartSize
@@ -75,47 +66,51 @@ pub fn build(n: usize, list: &[u8], table: &mut [u32], work: &mut [u32]) -> Buil
     BuildSize { points, start }
 }
 
+// Refuses by 6 a table of fewer cells than so many rows of room have.
+pub fn check_rows(n: u64, rows: usize, cells: usize) -> Result<(), Refusal>
+    requires { (n ≤ 26) × (rows ≤ point_limit) }
+    ensures checked { result ≡ unless (refused_if (ltb cells (rows * (2 * n))) 6 0) tt }
+{
+    if cells < rows * (2 * (n as usize)) {
+        return Err(refuse(Cause::Table, 0));
+    }
+    Ok(())
+}
+
 // What is said of a list where nothing is refused.
-fn fold_lent(n: u64, list: &[u8], table: &mut [u32], work: &mut [u32]) -> Folded
+fn fold_lent(
+    n: u64,
+    list: &[u8],
+    table: &mut [u32],
+    work: &mut [u32],
+) -> Result<FoldFigures, Refusal>
     requires { Foldable n list.now table.old work.old }
     ensures outcome { FoldOutcome n list.now table.old work.old result table.new work.new }
 {
-    let built = build(n as usize, list, table, work);
-    let start = built.start;
-    let points = built.points as u64;
-    match tables::check(Subgroup { n, points }, table) {
-        Checked::Refused(r) => Folded::Refused(r),
-        Checked::Counted(counts) => Folded::Made(FoldFigures {
-            points,
-            counts,
-            start,
-            merging: start.points as u64 - points,
-            closing: start.edges as u64 + 1 - start.points as u64 - counts.rank,
-        }),
-    }
-}
-
-// What is said of a list that is fine: 6, 7 or the fold.
-fn fold_text(n: u64, list: &[u8], table: &mut [u32], work: &mut [u32]) -> Folded
-    requires { text_refusal n true list.now ≡ none }
-    ensures outcome { FoldOutcome n list.now table.old work.old result table.new work.new }
-{
-    let rows = lists::letters_in(list) + 1;
-    if table.len() < rows * (2 * (n as usize)) {
-        return Folded::Refused(refusals::refuse(6, 0));
-    }
-    if work.len() < 8 * rows {
-        return Folded::Refused(refusals::refuse(7, (8 * rows) as u64));
-    }
-    fold_lent(n, list, table, work)
+    let BuildSize { points, start } = build(n as usize, list, table, work);
+    let points = points as u64;
+    let counts = tables::check(Subgroup { n, points }, table)?;
+    Ok(FoldFigures {
+        points,
+        counts,
+        start,
+        merging: start.points as u64 - points,
+        closing: start.edges as u64 + 1 - start.points as u64 - counts.rank,
+    })
 }
 
 // Folds a list of words over n generators into the canonical table of its subgroup, or refuses: 1, 2, 3/4, 5, 6, 7.
-pub fn fold(n: u64, list: &[u8], table: &mut [u32], work: &mut [u32]) -> Folded
+pub fn fold(
+    n: u64,
+    list: &[u8],
+    table: &mut [u32],
+    work: &mut [u32],
+) -> Result<FoldFigures, Refusal>
     ensures outcome { FoldOutcome n list.now table.old work.old result table.new work.new }
 {
-    match lists::scan(n, list, true) {
-        Scanned::Refused(r) => Folded::Refused(r),
-        Scanned::Fine => fold_text(n, list, table, work),
-    }
+    lists::scan(n, list, true)?;
+    let rows = lists::letters_in(list) + 1;
+    check_rows(n, rows, table.len())?;
+    refusals::check_room(Cause::Work, (8 * rows) as u64, work.len() as u64)?;
+    fold_lent(n, list, table, work)
 }

@@ -3,8 +3,8 @@
 use Rattle.asks.proofs.AskLaws.{build_asks, answered}
 use Rattle.asks.proofs.ask_lent.Goals as goal
 
-pub build-built-requires : goal.build-built-requires
-build-built-requires c = build_asks c.requires
+pub build-points-requires : goal.build-points-requires
+build-points-requires c = build_asks c.requires
 
 pub returns : goal.returns
-returns c = record { outcome = answered c.requires c.build-built.ensures.built c.member.ensures.outcome }
+returns c = record { outcome = answered c.requires c.build-points.ensures.built c.member.ensures.outcome }
