@@ -12,6 +12,8 @@ use mathlib.Core.List.{List}
 use Prim.Native.Nat.{ℕ, ◌*◌, ◌≤◌}
 use native.Mathlib.Omega.{arith}
 use lib.ListN.{length, take}
+use Rattle.std.specs.declared.result.Result.{Result}
+use Rattle.std.specs.declared.result.Result.TheVariants.{Ok}
 use Rattle.theory.specs.Words.{SameSubgroup}
 use Rattle.theory.specs.Letters.{usual, words_of}
 use Rattle.theory.specs.Refusals.{text_limit}
@@ -21,10 +23,10 @@ use Rattle.theory.specs.Texts.{list_text}
 use Rattle.theory.proofs.OneTable.{rows_of_cells}
 use Rattle.theory.proofs.StartLaws.{non_empty_words_all}
 use Rattle.theory.proofs.Main.{tables_equal_iff_same_subgroup}
+use Rattle.refusals.specs.declared.Refusal.{Refusal}
 use Rattle.tables.specs.Checks.{figures_as, index_as}
 use Rattle.tables.specs.declared.Figures.{Figures}
 use Rattle.bases.specs.Bases.{basis_text, BasisOutcome}
-use Rattle.bases.specs.declared.BasisAnswer.TheVariants.{Written}
 use Rattle.bases.proofs.Bases.{
   written_lent,
   written_text,
@@ -35,8 +37,6 @@ use Rattle.bases.proofs.Bases.{
   written_basis_of_list,
 }
 use Rattle.folds.specs.declared.FoldFigures.{FoldFigures}
-use Rattle.folds.specs.declared.Folded.{Folded}
-use Rattle.folds.specs.declared.Folded.TheVariants.{Made}
 use Rattle.folds.specs.Causes.{rows_of, work_of}
 use Rattle.folds.specs.Folds.{FoldOutcome}
 use Rattle.folds.proofs.CauseLaws.{fine_fold}
@@ -52,9 +52,9 @@ figures_same n N M t s e c = ap (figures (cell n N t)) e ∙ ap (λ (d : Cells).
     figures d K = record { edges = length (edges_of d K (usual n)); rank = rank_of d K (usual n); index = index_as (index_of d K (usual n)) }
 
 module _ (n N : ℕ) (t work out : List ℕ) (words bytes : ℕ) (work' out' : List ℕ)
-    (h : BasisOutcome n N t work out (Written words bytes) work' out') where
+    (h : BasisOutcome n N t work out (Ok (record { words = words; bytes = bytes })) work' out') where
   module _ (table cells : List ℕ) (f : FoldFigures) (table' cells' : List ℕ)
-      (k : FoldOutcome n (take bytes out') table cells (Made f) table' cells') where
+      (k : FoldOutcome n (take bytes out') table cells (Ok f) table' cells') where
     -- the two tables are of one subgroup
     same_cells_lem : (f.points ≡ N) × ((v y : ℕ) → cell n f.points table' v y ≡ cell n N t v y)
     same_cells_lem =
@@ -91,7 +91,7 @@ module _ (n N : ℕ) (t work out : List ℕ) (words bytes : ℕ) (work' out' : L
 
     -- the basis of what it folds to is the same text
     pub basis_again : (room rest : List ℕ) (more size : ℕ) (room' rest' : List ℕ)
-        → BasisOutcome n f.points table' room rest (Written more size) room' rest' → take size rest' ≡ take bytes out'
+        → BasisOutcome n f.points table' room rest (Ok (record { words = more; bytes = size })) room' rest' → take size rest' ≡ take bytes out'
     unfolding basis_text
     basis_again room rest more size room' rest' b =
         (written_text n f.points table' room rest more size room' rest' b).0
@@ -100,21 +100,21 @@ module _ (n N : ℕ) (t work out : List ℕ) (words bytes : ℕ) (work' out' : L
         ∙ sym (written_text n N t work out words bytes work' out' h).0
 
   pub basis_can_be_folded : (table cells : List ℕ) → bytes ≤ text_limit → rows_of (take bytes out') * (2 * n) ≤ length table
-      → work_of (take bytes out') ≤ length cells → (r : Folded) (table' cells' : List ℕ) → FoldOutcome n (take bytes out') table cells r table' cells'
-      → (f : FoldFigures) × (r ≡ Made f)
+      → work_of (take bytes out') ≤ length cells → (r : Result FoldFigures Refusal) (table' cells' : List ℕ) → FoldOutcome n (take bytes out') table cells r table' cells'
+      → (f : FoldFigures) × (r ≡ Ok f)
   basis_can_be_folded table cells b a w r table' cells' k =
       let e = every_list_folds n (take bytes out') table cells r table' cells' k
       (fine_fold n (take bytes out') (length table) (length cells) ((written_list n N t work out words bytes work' out' h).0 b) a w) in
       (e.0, e.1)
 
-module _ (n : ℕ) (list table work : List ℕ) (f : FoldFigures) (table' work' : List ℕ) (a : FoldOutcome n list table work (Made f) table' work')
-    (cells out : List ℕ) (words bytes : ℕ) (cells' out' : List ℕ) (b : BasisOutcome n f.points table' cells out (Written words bytes) cells' out') where
+module _ (n : ℕ) (list table work : List ℕ) (f : FoldFigures) (table' work' : List ℕ) (a : FoldOutcome n list table work (Ok f) table' work')
+    (cells out : List ℕ) (words bytes : ℕ) (cells' out' : List ℕ) (b : BasisOutcome n f.points table' cells out (Ok (record { words = words; bytes = bytes })) cells' out') where
   pub fold_basis_subgroup : SameSubgroup (words_of (take bytes out')) (words_of list)
   fold_basis_subgroup =
       written_basis_of_list n f.points table' cells out words bytes cells' out' b (words_of list)
       (made_done n list table work f table' work' a).1.subgroup
 
-  pub fold_basis_fold : (room rest : List ℕ) (g : FoldFigures) (room' rest' : List ℕ) → FoldOutcome n (take bytes out') room rest (Made g) room' rest'
+  pub fold_basis_fold : (room rest : List ℕ) (g : FoldFigures) (room' rest' : List ℕ) → FoldOutcome n (take bytes out') room rest (Ok g) room' rest'
       → (g.points ≡ f.points) × (take (f.points * (2 * n)) room' ≡ take (f.points * (2 * n)) table') × (g.counts ≡ f.counts)
   fold_basis_fold room rest g room' rest' c =
       let s = basis_folds_back n f.points table' cells out words bytes cells' out' b room rest g room' rest' c in (

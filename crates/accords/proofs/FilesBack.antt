@@ -13,6 +13,8 @@ use Prim.Native.Nat.{ℕ, ◌*◌, ◌≤◌}
 use native.Mathlib.Omega.{arith}
 use lib.ListN.{length, take, drop, length-append}
 use lib.Seq.{take_at, drop_at, length-take-le, take-length}
+use Rattle.std.specs.declared.result.Result.{Result}
+use Rattle.std.specs.declared.result.Result.TheVariants.{Ok}
 use Rattle.theory.specs.Files.{numbers_bytes, table_file, cell_number, list_file}
 use Rattle.theory.specs.Letters.{words_of}
 use Rattle.theory.specs.Refusals.{point_limit, text_refusal}
@@ -21,29 +23,27 @@ use Rattle.theory.specs.Texts.{list_text}
 use Rattle.theory.proofs.RefusalLaws.{alphabet_in}
 use Rattle.theory.proofs.TableRefusalLaws.{lent_in, in_lent, text_alphabet}
 use Rattle.theory.proofs.ListTexts.{words_of_text, text_fine}
-use Rattle.saves.specs.declared.Saved.{Saved}
-use Rattle.saves.specs.declared.Saved.TheVariants.{Written}
+use Rattle.refusals.specs.declared.Refusal.{Refusal}
 use Rattle.saves.specs.Saves.{SaveTableOutcome, SaveListOutcome}
 use Rattle.saves.proofs.ListLaws.{savable_list}
 use Rattle.table_files.specs.TableFiles.{sound}
 use Rattle.list_files.specs.ListFiles.{listed}
 use Rattle.loads.specs.declared.Loaded.{Loaded}
-use Rattle.loads.specs.declared.Found.TheVariants.{Table, List as ListMet}
-use Rattle.loads.specs.Loads.{table_met, list_met, file_in, answer_with, loaded_for, table_after, text_after, LoadOutcome}
+use Rattle.loads.specs.Loads.{table_met, list_met, file_in, loaded_for, table_after, text_after, LoadOutcome}
 use Rattle.accords.proofs.CellsBack.{Fine, fine_check, same_rows}
 use Rattle.accords.proofs.TextsBack.{text_of_words}
 use Rattle.accords.proofs.SavedFiles.{table_saved, list_saved, table_saves, list_saves}
-use Rattle.accords.proofs.HeadsBack.{table_found, list_found, FoundTable, found_table_file, FoundList, found_list_file, table_said, list_said}
+use Rattle.accords.proofs.HeadsBack.{table_found, list_found, FoundTable, found_table_file, FoundList, found_list_file, table_answer, list_answer, table_said, list_said}
 
 -- ── Tables: saved, then loaded ──
 
-module _ (n N : ℕ) (t out : List ℕ) (k : ℕ) (out' : List ℕ) (h : SaveTableOutcome n N t out (Written k) out') where
+module _ (n N : ℕ) (t out : List ℕ) (k : ℕ) (out' : List ℕ) (h : SaveTableOutcome n N t out (Ok k) out') where
   table_fine : Fine n N t
   table_fine = (table_saved n N t out k out' h).0
 
-  pub saved_table_loads_back : (table text : List ℕ) (r : Loaded) (table' text' : List ℕ) → LoadOutcome (take k out') table text r table' text'
+  pub saved_table_loads_back : (table text : List ℕ) (r : Result Loaded Refusal) (table' text' : List ℕ) → LoadOutcome (take k out') table text r table' text'
       → N * (2 * n) ≤ length table
-      → (r ≡ answer_with n N Table) × (take (N * (2 * n)) table' ≡ take (N * (2 * n)) t)
+      → (r ≡ table_answer n N) × (take (N * (2 * n)) table' ≡ take (N * (2 * n)) t)
       × (drop (N * (2 * n)) table' ≡ drop (N * (2 * n)) table) × (text' ≡ text)
   saved_table_loads_back table text r table' text' l room = (
     l.answer ∙ ap loaded_for found,
@@ -66,7 +66,7 @@ module _ (n N : ℕ) (t out : List ℕ) (k : ℕ) (out' : List ℕ) (h : SaveTab
 
 -- ── Tables: loaded, then saved ──
 
-module _ (file table text : List ℕ) (n N : ℕ) (table' text' : List ℕ) (l : LoadOutcome file table text (answer_with n N Table) table' text') where
+module _ (file table text : List ℕ) (n N : ℕ) (table' text' : List ℕ) (l : LoadOutcome file table text (table_answer n N) table' text') where
   -- the table that was found, and the cells that it left
   record Loads : Type 0 where
     t : List ℕ
@@ -114,17 +114,17 @@ module _ (file table text : List ℕ) (n N : ℕ) (table' text' : List ℕ) (l :
             length-append loads.t (drop (length loads.t) table),
           )
 
-  pub table_file_saves_back : (out : List ℕ) (k : ℕ) (out' : List ℕ) → SaveTableOutcome n N table' out (Written k) out' → take k out' ≡ file
+  pub table_file_saves_back : (out : List ℕ) (k : ℕ) (out' : List ℕ) → SaveTableOutcome n N table' out (Ok k) out' → take k out' ≡ file
   table_file_saves_back out k out' h = (table_saved n N table' out k out' h).1 ∙ sym loaded_file
 
-  pub table_file_can_be_saved : (out : List ℕ) (r : Saved) (out' : List ℕ) → SaveTableOutcome n N table' out r out' → length file ≤ length out
-      → (r ≡ Written (length file)) × (take (length file) out' ≡ file)
+  pub table_file_can_be_saved : (out : List ℕ) (r : Result ℕ Refusal) (out' : List ℕ) → SaveTableOutcome n N table' out r out' → length file ≤ length out
+      → (r ≡ Ok (length file)) × (take (length file) out' ≡ file)
   table_file_can_be_saved out r out' h room =
-      subst (λ f. (r ≡ Written (length f)) × (take (length f) out' ≡ f)) (sym loaded_file)
+      subst (λ f. (r ≡ Ok (length f)) × (take (length f) out' ≡ f)) (sym loaded_file)
       (table_saves n N table' out r out' h loaded_fine (subst (λ f. length f ≤ length out) loaded_file room))
 
-pub table_files_one : (file table text : List ℕ) (n N : ℕ) (table' text' : List ℕ) → LoadOutcome file table text (answer_with n N Table) table' text'
-    → (other room rest room' rest' : List ℕ) → LoadOutcome other room rest (answer_with n N Table) room' rest'
+pub table_files_one : (file table text : List ℕ) (n N : ℕ) (table' text' : List ℕ) → LoadOutcome file table text (table_answer n N) table' text'
+    → (other room rest room' rest' : List ℕ) → LoadOutcome other room rest (table_answer n N) room' rest'
     → take (N * (2 * n)) table' ≡ take (N * (2 * n)) room' → file ≡ other
 unfolding table_file
 table_files_one file table text n N table' text' l other room rest room' rest' m e =
@@ -134,16 +134,16 @@ table_files_one file table text n N table' text' l other room rest room' rest' m
 
 -- ── Lists: saved, then loaded ──
 
-module _ (n : ℕ) (list out : List ℕ) (k : ℕ) (out' : List ℕ) (h : SaveListOutcome n list out (Written k) out') where
+module _ (n : ℕ) (list out : List ℕ) (k : ℕ) (out' : List ℕ) (h : SaveListOutcome n list out (Ok k) out') where
   list_fine : text_refusal n true list ≡ none
   list_fine = (list_saved n list out k out' h).0
 
-  pub saved_list_loads_back : (table text : List ℕ) (r : Loaded) (table' text' : List ℕ) → LoadOutcome (take k out') table text r table' text'
+  pub saved_list_loads_back : (table text : List ℕ) (r : Result Loaded Refusal) (table' text' : List ℕ) → LoadOutcome (take k out') table text r table' text'
       → length list ≤ length text
-      → (r ≡ answer_with n 0 (ListMet (length (words_of list)) (length list))) × (take (length list) text' ≡ list)
+      → (r ≡ list_answer n (length (words_of list)) (length list)) × (take (length list) text' ≡ list)
       × (drop (length list) text' ≡ drop (length list) text) × (table' ≡ table)
   saved_list_loads_back table text r table' text' l room = (
-    l.answer ∙ ap loaded_for found ∙ ap (λ b. answer_with n 0 (ListMet (length (words_of list)) (length b))) same,
+    l.answer ∙ ap loaded_for found ∙ ap (λ b. list_answer n (length (words_of list)) (length b)) same,
     ap (take (length list)) bytes ∙ take_at list (drop (length list) text) (length list) refl,
     ap (drop (length list)) bytes ∙ drop_at list (drop (length list) text) (length list) refl,
     l.cells ∙ ap (table_after table) found,
@@ -164,7 +164,7 @@ module _ (n : ℕ) (list out : List ℕ) (k : ℕ) (out' : List ℕ) (h : SaveLi
 -- ── Lists: loaded, then saved ──
 
 module _ (file table text : List ℕ) (n words bytes : ℕ) (table' text' : List ℕ)
-    (l : LoadOutcome file table text (answer_with n 0 (ListMet words bytes)) table' text') where
+    (l : LoadOutcome file table text (list_answer n words bytes) table' text') where
   -- the words that were found, and the text that they left
   record Lists : Type 0 where
     ws : List (List ℕ)
@@ -173,7 +173,7 @@ module _ (file table text : List ℕ) (n words bytes : ℕ) (table' text' : List
 
   lists : Lists
   lists =
-      let s = list_said n 0 words bytes (file_in (length table) (length text) file) l.answer in
+      let s = list_said n words bytes (file_in (length table) (length text) file) l.answer in
       record {
         ws = s.0;
         found = found_list_file (length table) (length text) file n s.0 s.1;
@@ -198,18 +198,18 @@ module _ (file table text : List ℕ) (n words bytes : ℕ) (table' text' : List
       ap (text_refusal n true) lists.text_read
       ∙ text_fine n lists.ws lists.found.alphabet lists.found.stands.below lists.found.stands.short
 
-  pub list_file_saves_back : (out : List ℕ) (k : ℕ) (out' : List ℕ) → SaveListOutcome n (take bytes text') out (Written k) out' → take k out' ≡ file
+  pub list_file_saves_back : (out : List ℕ) (k : ℕ) (out' : List ℕ) → SaveListOutcome n (take bytes text') out (Ok k) out' → take k out' ≡ file
   list_file_saves_back out k out' h = (list_saved n (take bytes text') out k out' h).1 ∙ sym loaded_list
 
-  pub list_file_can_be_saved : (out : List ℕ) (r : Saved) (out' : List ℕ) → SaveListOutcome n (take bytes text') out r out' → length file ≤ length out
-      → (r ≡ Written (length file)) × (take (length file) out' ≡ file)
+  pub list_file_can_be_saved : (out : List ℕ) (r : Result ℕ Refusal) (out' : List ℕ) → SaveListOutcome n (take bytes text') out r out' → length file ≤ length out
+      → (r ≡ Ok (length file)) × (take (length file) out' ≡ file)
   list_file_can_be_saved out r out' h room =
-      subst (λ f. (r ≡ Written (length f)) × (take (length f) out' ≡ f)) (sym loaded_list)
+      subst (λ f. (r ≡ Ok (length f)) × (take (length f) out' ≡ f)) (sym loaded_list)
       (list_saves n (take bytes text') out r out' h text_unrefused (subst (λ f. length f ≤ length out) loaded_list room))
 
 pub list_files_one : (file table text : List ℕ) (n words bytes : ℕ) (table' text' : List ℕ)
-    → LoadOutcome file table text (answer_with n 0 (ListMet words bytes)) table' text'
-    → (other room rest : List ℕ) (more size : ℕ) (room' rest' : List ℕ) → LoadOutcome other room rest (answer_with n 0 (ListMet more size)) room' rest'
+    → LoadOutcome file table text (list_answer n words bytes) table' text'
+    → (other room rest : List ℕ) (more size : ℕ) (room' rest' : List ℕ) → LoadOutcome other room rest (list_answer n more size) room' rest'
     → take bytes text' ≡ take size rest' → file ≡ other
 list_files_one file table text n words bytes table' text' l other room rest more size room' rest' m e =
     loaded_list file table text n words bytes table' text' l

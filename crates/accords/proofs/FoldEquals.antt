@@ -1,36 +1,34 @@
 -- What `fold` and `equal` say of one another (document 01).
 --   folds_compare        : two tables that `fold` leaves over one alphabet are never refused by `equal`
---   equal_iff_same_lists : and `equal` says Yes exactly if the two lists generate the same subgroup
+--   equal_iff_same_lists : and `equal` says true exactly if the two lists generate the same subgroup
 -- Assumes nothing.
-use mathlib.Core.Path.{◌≡◌, refl, sym, ◌∙◌, ap}
+use mathlib.Core.Path.{◌≡◌, refl, sym, ◌∙◌}
 use mathlib.Core.Logic.{◌↔◌}
-use mathlib.Core.Bool.{Bool, true, false, cond, ◌&&◌}
+use mathlib.Core.Bool.{Bool, true}
 use mathlib.Core.Option.{none}
 use mathlib.Core.List.{List}
-use Prim.Native.Nat.{ℕ, ◌*◌}
+use Prim.Native.Nat.{ℕ}
 use native.Mathlib.Omega.{arith}
-use lib.Dec.{eqb}
-use lib.ListN.{take}
 use borrow.Author.Tests.{eq-eqb}
+use Rattle.std.specs.declared.result.Result.{Result}
+use Rattle.std.specs.declared.result.Result.TheVariants.{Ok, Err}
 use Rattle.theory.specs.Words.{SameSubgroup}
 use Rattle.theory.specs.Letters.{words_of}
 use Rattle.theory.specs.Tables.{cell}
 use Rattle.theory.specs.Subgroups.{TableOf}
 use Rattle.theory.specs.TableRefusals.{equal_refusal}
 use Rattle.refusals.specs.declared.Refusal.{Refusal}
-use Rattle.equals.specs.Equals.{same_cells, equal_for, equal_as, EqualOutcome}
-use Rattle.equals.specs.declared.Equality.{Equality}
-use Rattle.equals.specs.declared.Equality.TheVariants.{Refused, Yes, No}
+use Rattle.equals.specs.Equals.{equal_as, EqualOutcome}
+use Rattle.equals.proofs.EqualLaws.{answered}
 use Rattle.equals.proofs.Equals.{SameWords, equal_exact}
 use Rattle.folds.specs.declared.FoldFigures.{FoldFigures}
-use Rattle.folds.specs.declared.Folded.TheVariants.{Made}
 use Rattle.folds.specs.Folds.{FoldOutcome}
 use Rattle.folds.proofs.Folds.{made_done}
 use Rattle.accords.proofs.FoldedTables.{folded_alphabet, folded_lent, folded_sound}
 
-module _ (n : ℕ) (us table work : List ℕ) (f : FoldFigures) (table' work' : List ℕ) (a : FoldOutcome n us table work (Made f) table' work')
-    (ws room rest : List ℕ) (g : FoldFigures) (room' rest' : List ℕ) (b : FoldOutcome n ws room rest (Made g) room' rest')
-    (r : Equality) (e : EqualOutcome n f.points table' n g.points room' r) where
+module _ (n : ℕ) (us table work : List ℕ) (f : FoldFigures) (table' work' : List ℕ) (a : FoldOutcome n us table work (Ok f) table' work')
+    (ws room rest : List ℕ) (g : FoldFigures) (room' rest' : List ℕ) (b : FoldOutcome n ws room rest (Ok g) room' rest')
+    (r : Result Bool Refusal) (e : EqualOutcome n f.points table' n g.points room' r) where
   clear : equal_refusal n f.points table' n g.points room' ≡ none
   unfolding equal_refusal
   clear =
@@ -43,17 +41,13 @@ module _ (n : ℕ) (us table work : List ℕ) (f : FoldFigures) (table' work' : 
         folded_sound n ws room rest g room' rest' b,
       )
 
-  pub folds_compare : (c : Refusal) → r ≡ Refused c → ⊥
-  unfolding equal_as
-  folds_compare c q =
-      go (eqb f.points g.points && same_cells (take (f.points * (2 * n)) table') (take (f.points * (2 * n)) room'))
-      (sym (e ∙ ap (equal_for n f.points table' g.points room') clear) ∙ q)
+  pub folds_compare : (c : Refusal) → r ≡ Err c → ⊥
+  folds_compare c q = apart (answered n f.points table' n g.points room' clear ∙ sym e ∙ q)
     where
-      go : (t : Bool) → cond t Yes No ≡ Refused c → ⊥
-      go true d = let z : ◌≡◌ {A = ℕ} 0 1 = cc in omega arith
-      go false d = let z : ◌≡◌ {A = ℕ} 0 1 = cc in omega arith
+      apart : {b : Bool} → ◌≡◌ {A = Result Bool Refusal} (Ok b) (Err c) → ⊥
+      apart d = let z : ◌≡◌ {A = ℕ} 0 1 = cc in omega arith
 
-  pub equal_iff_same_lists : (r ≡ Yes) ↔ SameSubgroup (words_of us) (words_of ws)
+  pub equal_iff_same_lists : (r ≡ Ok true) ↔ SameSubgroup (words_of us) (words_of ws)
   equal_iff_same_lists = (
     λ y. let s = exact.0 (sym e ∙ y) in
         record { onward = λ q m. S.accepts.1 q ((s q).0 (T.accepts.0 q m)); back = λ q m. T.accepts.1 q ((s q).1 (S.accepts.0 q m)) },
@@ -66,5 +60,5 @@ module _ (n : ℕ) (us table work : List ℕ) (f : FoldFigures) (table' work' : 
       S : TableOf n g.points room' (words_of ws)
       S = (made_done n ws room rest g room' rest' b).1.subgroup
 
-      exact : (equal_as n f.points table' n g.points room' ≡ Yes) ↔ SameWords (cell n f.points table') (cell n g.points room')
+      exact : (equal_as n f.points table' n g.points room' ≡ Ok true) ↔ SameWords (cell n f.points table') (cell n g.points room')
       exact = equal_exact n f.points table' n g.points room' clear

@@ -2,6 +2,7 @@
 --   table_found, list_found           : in the file of a table, of a list, that is not refused `load` finds the table, the list
 --   FoundTable, found_table_file      : where a table is found, the file is that table's
 --   FoundList, found_list_file        : where a list is found, the file is that list's
+--   table_answer, list_answer         : what `load` says of a table of N points, of a list of so many words and bytes
 --   table_said, list_said             : what was found, by what `load` says
 -- Assumes nothing.
 use mathlib.Core.Path.{◌≡◌, refl, sym, ◌∙◌, ap, subst}
@@ -14,6 +15,8 @@ use lib.Dec.{eqb}
 use lib.ListN.{length, take, drop}
 use lib.Seq.{take-length}
 use borrow.Author.Tests.{eqb-true}
+use Rattle.std.specs.declared.result.Result.{Result}
+use Rattle.std.specs.declared.result.Result.TheVariants.{Ok, Err}
 use Rattle.theory.specs.Files.{number_limit, number_bytes, numbers_bytes, cell_number, table_file, word_numbers, list_file}
 use Rattle.theory.specs.Refusals.{text_limit, is_alphabet}
 use Rattle.theory.specs.Texts.{list_text}
@@ -26,9 +29,8 @@ use Rattle.runs.proofs.BackLaws.{number_read, number_left, number_written}
 use Rattle.table_files.specs.TableFiles.{TableIn, refused, faulty, sound, table_in}
 use Rattle.list_files.specs.ListFiles.{ListIn, refused as unlisted, listed, list_in}
 use Rattle.loads.specs.declared.Loaded.{Loaded}
-use Rattle.loads.specs.declared.Found.{Found}
-use Rattle.loads.specs.declared.Found.TheVariants.{Refused, Table, List as ListMet}
-use Rattle.loads.specs.Loads.{FileIn, unread, table_met, list_met, by_kind, after_n, after_kind, file_in, answer_with, loaded_for}
+use Rattle.loads.specs.declared.Loaded.TheVariants.{Table, List as ListLoaded}
+use Rattle.loads.specs.Loads.{FileIn, unread, table_met, list_met, by_kind, after_n, after_kind, file_in, loaded_for}
 use Rattle.accords.proofs.CellsBack.{Fine, TableStands, table_read, table_written}
 use Rattle.accords.proofs.WordsBack.{ListStands, list_read, list_written}
 
@@ -211,37 +213,43 @@ module _ (cells space : ℕ) (file : List ℕ) (n : ℕ) (ws : List (List ℕ)) 
 
 -- ── What was found, by what is said ──
 
-refused_table : {r : Refusal} → Refused r ≡ Table → ⊥
-refused_table e = true≢false cc
+abbrev pub table_answer : ℕ → ℕ → Result Loaded Refusal
+table_answer n N = Ok (Table n N)
 
-refused_list : {r : Refusal} {k b : ℕ} → Refused r ≡ ListMet k b → ⊥
-refused_list e = true≢false cc
+abbrev pub list_answer : ℕ → ℕ → ℕ → Result Loaded Refusal
+list_answer n words bytes = Ok (ListLoaded n (record { words = words; bytes = bytes }))
 
-met_apart : {k b : ℕ} → ListMet k b ≡ Table → ⊥
+-- a refusal is no such answer, and a table is no list
+refused_loaded : {l : Loaded} {r : Refusal} → Ok l ≡ Err r → ⊥
+refused_loaded e = true≢false cc
+
+met_apart : {n N m words bytes : ℕ} → table_answer n N ≡ list_answer m words bytes → ⊥
 met_apart e = true≢false cc
 
-met_one : {k l b d : ℕ} → ListMet k b ≡ ListMet l d → (k ≡ l) × (b ≡ d)
-met_one e = (cc, cc)
+-- the parts of an answer: n, and the points of a table, or the words and bytes of a list
+abbrev parts : Result Loaded Refusal → ℕ × ℕ × ℕ
+parts (Err r) = (0, 0, 0)
+parts (Ok (Table n points)) = (n, points, 0)
+parts (Ok (ListLoaded n size)) = (n, size.words, size.bytes)
 
--- the parts of an answer
-said : {n N m M : ℕ} {a b : Found} → answer_with n N a ≡ answer_with m M b → (n ≡ m) × (N ≡ M) × (a ≡ b)
-said e = (ap (λ (r : Loaded). r.subgroup.n) e, ap (λ (r : Loaded). r.subgroup.points) e, ap (λ (r : Loaded). r.found) e)
+said : {a b : Result Loaded Refusal} → a ≡ b → ((parts a).0 ≡ (parts b).0) × ((parts a).1 ≡ (parts b).1) × ((parts a).2 ≡ (parts b).2)
+said e = (ap (λ r. (parts r).0) e, ap (λ r. (parts r).1) e, ap (λ r. (parts r).2) e)
 
-pub table_said : (n N : ℕ) (m : FileIn) → answer_with n N Table ≡ loaded_for m → (t : List ℕ) × (m ≡ table_met n (sound N t))
-table_said n N (unread r) e = absurd (refused_table (sym (said e).2))
-table_said n N (table_met k (refused r)) e = absurd (refused_table (sym (said e).2))
-table_said n N (table_met k (faulty c r)) e = absurd (refused_table (sym (said e).2))
+pub table_said : (n N : ℕ) (m : FileIn) → table_answer n N ≡ loaded_for m → (t : List ℕ) × (m ≡ table_met n (sound N t))
+table_said n N (unread r) e = absurd (refused_loaded e)
+table_said n N (table_met k (refused r)) e = absurd (refused_loaded e)
+table_said n N (table_met k (faulty c r)) e = absurd (refused_loaded e)
 table_said n N (table_met k (sound M t)) e =
     (t, ap (λ j. table_met j (sound M t)) (sym (said e).0) ∙ ap (λ j. table_met n (sound j t)) (sym (said e).1))
-table_said n N (list_met k (unlisted r)) e = absurd (refused_table (sym (said e).2))
-table_said n N (list_met k (listed ws)) e = absurd (met_apart (sym (said e).2))
+table_said n N (list_met k (unlisted r)) e = absurd (refused_loaded e)
+table_said n N (list_met k (listed ws)) e = absurd (met_apart e)
 
-pub list_said : (n N words bytes : ℕ) (m : FileIn) → answer_with n N (ListMet words bytes) ≡ loaded_for m
-    → (ws : List (List ℕ)) × (m ≡ list_met n (listed ws)) × (words ≡ length ws) × (bytes ≡ length (list_text ws)) × (N ≡ 0)
-list_said n N words bytes (unread r) e = absurd (refused_list (sym (said e).2))
-list_said n N words bytes (table_met k (refused r)) e = absurd (refused_list (sym (said e).2))
-list_said n N words bytes (table_met k (faulty c r)) e = absurd (refused_list (sym (said e).2))
-list_said n N words bytes (table_met k (sound M t)) e = absurd (met_apart (said e).2)
-list_said n N words bytes (list_met k (unlisted r)) e = absurd (refused_list (sym (said e).2))
-list_said n N words bytes (list_met k (listed ws)) e =
-    (ws, ap (λ j. list_met j (listed ws)) (sym (said e).0), (met_one (said e).2).0, (met_one (said e).2).1, (said e).1)
+pub list_said : (n words bytes : ℕ) (m : FileIn) → list_answer n words bytes ≡ loaded_for m
+    → (ws : List (List ℕ)) × (m ≡ list_met n (listed ws)) × (words ≡ length ws) × (bytes ≡ length (list_text ws))
+list_said n words bytes (unread r) e = absurd (refused_loaded e)
+list_said n words bytes (table_met k (refused r)) e = absurd (refused_loaded e)
+list_said n words bytes (table_met k (faulty c r)) e = absurd (refused_loaded e)
+list_said n words bytes (table_met k (sound M t)) e = absurd (met_apart (sym e))
+list_said n words bytes (list_met k (unlisted r)) e = absurd (refused_loaded e)
+list_said n words bytes (list_met k (listed ws)) e =
+    (ws, ap (λ j. list_met j (listed ws)) (sym (said e).0), (said e).1, (said e).2)
