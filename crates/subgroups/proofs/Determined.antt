@@ -1,5 +1,5 @@
 -- The contracts of the exported functions fix their replies.
---   ..-reply-determined : two replies that conform on one input are equal, and so are the cells
+--   .._reply_determined : two replies that conform on one input are equal, and so are the cells
 -- Each follows from the function behind (`same_reply`). Assumes nothing.
 use mathlib.Core.Path.{◌≡◌, sym, ◌∙◌}
 use mathlib.Core.List.{List}
@@ -22,7 +22,7 @@ use Rattle.subgroups.specs.declared.ExpressReply.{ExpressReply}
 use Rattle.subgroups.specs.declared.WrittenReply.{WrittenReply}
 use Rattle.subgroups.specs.declared.LoadReply.{LoadReply}
 use Rattle.subgroups.specs.declared.PartReply.{PartReply}
-use Rattle.subgroups.specs.Replies.{reply_of, checked_reply, answer_reply, equality_reply, judged_reply, expressed_reply, basis_reply, saved_reply, loaded_reply}
+use Rattle.subgroups.specs.Replies.{reply_of, checked_reply, yes_reply, expressed_reply, basis_reply, saved_reply, loaded_reply}
 use Rattle.subgroups.specs.Outcomes.{FoldReplied, AskReplied, CheckReplied, MemberReplied, EqualReplied, NormalReplied, ExpressReplied, BasisReplied, SaveTableReplied, SaveListReplied, LoadReplied, ShorterReplied}
 use Rattle.subgroups.proofs.ReplyLaws.{same_reply}
 
@@ -38,7 +38,7 @@ pub ask_reply_determined : (n : ℕ) (list query table work : List ℕ) {r s : Y
     → (r ≡ s) × (table₁ ≡ table₂) × (work₁ ≡ work₂)
 ask_reply_determined n list query table work h k =
     let same = ask_determined n list query table work h.1 k.1 in
-    (same_reply answer_reply h.2 k.2 same.0, same.1, same.2)
+    (same_reply yes_reply h.2 k.2 same.0, same.1, same.2)
 
 pub check_reply_determined : (n N : ℕ) (t : List ℕ) {r s : CheckReply} → CheckReplied n N t r → CheckReplied n N t s → r ≡ s
 check_reply_determined n N t h k = same_reply checked_reply h.2 k.2 (check_determined n N t h.0 k.0 h.1 k.1)
@@ -47,12 +47,12 @@ pub member_reply_determined : (n N : ℕ) (t query work : List ℕ) {r s : YesRe
     → MemberReplied n N t query work r work₁ → MemberReplied n N t query work s work₂ → (r ≡ s) × (work₁ ≡ work₂)
 member_reply_determined n N t query work {r} {s} {work₁} {work₂} h k =
     let same = member_determined n N t query work h.0 k.0 work₁ work₂ h.1 k.1 in
-    (same_reply answer_reply h.2 k.2 same.0, same.1)
+    (same_reply yes_reply h.2 k.2 same.0, same.1)
 
 pub equal_reply_determined : (n N : ℕ) (t : List ℕ) (m M : ℕ) (u : List ℕ) {r s : YesReply}
     → EqualReplied n N t m M u r → EqualReplied n N t m M u s → r ≡ s
 equal_reply_determined n N t m M u h k =
-    same_reply equality_reply h.2 k.2 (equal_determined n N t m M u h.0 k.0 h.1 k.1)
+    same_reply yes_reply h.2 k.2 (equal_determined n N t m M u h.0 k.0 h.1 k.1)
 
 pub basis_reply_determined : (n N : ℕ) (t work out : List ℕ) {r s : WrittenReply} {work₁ out₁ work₂ out₂ : List ℕ}
     → BasisReplied n N t work out r work₁ out₁ → BasisReplied n N t work out s work₂ out₂
@@ -84,7 +84,7 @@ pub normal_reply_determined : (n N : ℕ) (t work : List ℕ) {r s : YesReply} {
     → NormalReplied n N t work r work₁ → NormalReplied n N t work s work₂ → (r ≡ s) × (work₁ ≡ work₂)
 normal_reply_determined n N t work {r} {s} {work₁} {work₂} h k =
     let same = normal_determined n N t work h.0 k.0 work₁ work₂ h.1 k.1 in
-    (same_reply judged_reply h.2 k.2 same.0, same.1)
+    (same_reply yes_reply h.2 k.2 same.0, same.1)
 
 pub express_reply_determined : (n N : ℕ) (t query work : List ℕ) (out : List ℤ) {r s : ExpressReply} {work₁ work₂ : List ℕ} {out₁ out₂ : List ℤ}
     → ExpressReplied n N t query work out r work₁ out₁ → ExpressReplied n N t query work out s work₂ out₂
