@@ -1,7 +1,7 @@
 pub mod LineLaws
 pub mod MarkLaws
 pub mod NumberLaws
-pub mod MoveTurn
+pub mod GatherTurn
 pub mod RunTurn
 pub mod QueryLaws
 pub mod ParseLaws

@@ -4,12 +4,12 @@
 use mathlib.Core.Path.{◌≡◌, refl, sym, ◌∙◌, ap}
 use mathlib.Core.Bool.{true, false}
 use mathlib.Core.List.{List}
-use Prim.Native.Nat.{ℕ, zero, suc, ◌+◌, ◌<◌, ◌≤◌}
+use Prim.Native.Nat.{ℕ, ◌+◌, ◌<◌, ◌≤◌}
 use native.Mathlib.Omega.{arith}
 use lib.ListN.{length, drop, length-drop}
 use lib.Seq.{drop-drop}
+use Rattle.std.proofs.Common.{Ok, Err}
 use Rattle.lists.specs.Counts.{next_start}
-use Rattle.refusals.specs.Given.{given_as}
 use Rattle.refusals.specs.declared.Refusal.{Refusal}
 use Rattle.inputs.specs.Inputs.{
   lines_of,
@@ -22,15 +22,11 @@ use Rattle.inputs.specs.Inputs.{
   list_of,
   alphabet_of,
 }
-use Rattle.inputs.specs.Parsed.{run_length, run_text, fronted_by, queries_place, accepted_as, parsed_of, ParsedInto}
-use Rattle.inputs.specs.declared.Parsed.TheVariants.{BadInput, Refused, Accepted}
+use Rattle.inputs.specs.Parsed.{run_length, run_text, fronted_by, queries_place, first_number_of, accepted_as, parsed_of, ParsedInto}
+use Rattle.inputs.specs.declared.InputError.TheVariants.{Bad, Refused}
 use Rattle.inputs.proofs.LineLaws.{size_inside, first_size, later_lines_lem, next_first}
 use Rattle.inputs.proofs.MarkLaws.{after_run, lines_run, bad_plus, bad_asked, good_asked, list_run_lem}
-
--- a number that is not 0 is accepted
-accepted : (n list : ℕ) (place : ℕ) → (n ≡ 0 → ⊥) → Accepted n list place ≡ accepted_as n list place
-accepted zero list place e = absurd (e refl)
-accepted (suc k) list place e = refl
+use Rattle.inputs.proofs.NumberLaws.{answer_number, answer_refused}
 
 module _ (input : List ℕ) {first : ℕ} where
   pub first_inside : first ≡ next_start input 0 → first ≤ length input
@@ -68,24 +64,20 @@ module _ (input : List ℕ) {first : ℕ} where
         ∙ sym (ap (is_bad_input true) (behind f q))
         ∙ good_asked (lines_of (drop queries input)) (drop queries input) refl (omega (arith, a, length-drop queries input))
 
-    pub parse_bad : asked < length input → ParsedInto input BadInput input
+    pub parse_bad : asked < length input → ParsedInto input (Err Bad) input
     parse_bad h = record { answer = unfold parsed_of in rw (is_bad h); bytes = refl }
 
-    pub parse_refused : {n : ℕ} {r : Refusal} → length input ≤ asked → n ≡ alphabet_of 26 (without_end (first_line input)) → n ≡ 0 → r ≡ given_as 1 0 → ParsedInto input (Refused r) input
-    parse_refused {n} {r} h e z g =
-        record {
-          answer = ap Refused g ∙ sym (unfold parsed_of in (rw (is_good_lem h, sym e ∙ z)));
-          bytes = refl;
-        }
+    pub parse_refused : {r : Refusal} → length input ≤ asked → Err r ≡ first_number_of input → ParsedInto input (Err (Refused r)) input
+    unfolding first_number_of parsed_of
+    parse_refused {r} h e = record { answer = rw (is_good_lem h) (answer_refused _ _ _ e); bytes = refl }
 
-    pub parse_accepted : {n list : ℕ} {after : List ℕ} → length input ≤ asked → n ≡ alphabet_of 26 (without_end (first_line input)) → (n ≡ 0 → ⊥)
+    pub parse_accepted : {n list : ℕ} {after : List ℕ} → length input ≤ asked → Ok n ≡ first_number_of input
         → list ≡ length (run_text (lines_of (drop first input))) → after ≡ fronted_by (run_text (lines_of (drop first input))) input
-        → ParsedInto input (Accepted n list queries) after
-    parse_accepted {n} {list} {after} h e z l t =
+        → ParsedInto input (Ok (record { n = n; list = list; queries = queries })) after
+    parse_accepted {n} {list} {after} h e l t =
         record {
           answer =
-              accepted n list queries z
-              ∙ ap (λ k. accepted_as k list queries) e
+              answer_number (alphabet_of 26 (without_end (first_line input))) list queries (unfold first_number_of in e)
               ∙ ap (λ k. accepted_as (alphabet_of 26 (without_end (first_line input))) k queries) (l ∙ ap length text)
               ∙ ap (λ k. accepted_as (alphabet_of 26 (without_end (first_line input))) (length (list_of (later_lines input))) k) (place f q)
               ∙ sym (unfold parsed_of in (rw (is_good_lem h)));

@@ -10,6 +10,7 @@ use Prim.Native.Nat.{ℕ, zero, suc, ◌+◌, ◌-◌, ◌<◌, ◌≤◌}
 use native.Mathlib.Omega.{arith}
 use lib.ListN.{length, take, drop, length-drop, length-append}
 use lib.Seq.{take-append_seam, take-take, drop-drop}
+use Rattle.std.proofs.Common.{Ok, Err, Some}
 use Rattle.theory.specs.Letters.{word_length}
 use Rattle.theory.proofs.TextLaws.{word_length_le}
 use Rattle.theory.proofs.WordLaws.{by_test}
@@ -39,11 +40,12 @@ use Rattle.inputs.specs.Parsed.{
   walked_on,
   walked_from,
 }
-use Rattle.inputs.specs.declared.Parsed.TheVariants.{BadInput, Accepted}
-use Rattle.inputs.specs.declared.Query.TheVariants.{Asked}
+use Rattle.inputs.specs.declared.Accepted.{Accepted}
+use Rattle.inputs.specs.declared.InputError.TheVariants.{Bad}
+use Rattle.inputs.specs.declared.Query.{Query}
 use Rattle.inputs.proofs.LineLaws.{Line, line_of, line_size, first_size, later_lines_lem}
 use Rattle.inputs.proofs.MarkLaws.{after_run, lines_run, bad_plus, list_run_lem, two_marks}
-use Rattle.inputs.proofs.MoveTurn.{front_drop, line_text}
+use Rattle.inputs.proofs.GatherTurn.{front_drop, line_text}
 use Rattle.inputs.proofs.QueryLaws.{without_length}
 
 -- ── Lines as queries ──
@@ -111,69 +113,72 @@ text_few [] = omega arith
 text_few (l ∷ ls) =
     by_test (is_marked plus_mark l) (λ t. rw t (omega (arith, length-append (drop 1 l) (run_text ls), length-drop 1 l, text_few ls))) (λ t. rw t (omega arith))
 
-accepted_parts : (n list queries m k p : ℕ) → Accepted n list queries ≡ accepted_as m k p → (list ≡ k) × (queries ≡ p)
-accepted_parts n list queries zero k p e = absurd (let z : ◌≡◌ {A = ℕ} 0 1 = cc in omega arith)
-accepted_parts n list queries (suc m) k p e = (cc, cc)
+accepted_parts : (a : Accepted) (m k p : ℕ) → Ok a ≡ accepted_as m k p → (a.list ≡ k) × (a.queries ≡ p)
+accepted_parts a zero k p e = absurd (let z : ◌≡◌ {A = ℕ} 0 1 = cc in omega arith)
+accepted_parts a (suc m) k p e =
+    let same : a ≡ record { n = suc m; list = k; queries = p } = cc in
+    (ap (λ (x : Accepted). x.list) same, ap (λ (x : Accepted). x.queries) same)
 
-module _ (input : List ℕ) (n list queries : ℕ) (after : List ℕ) (h : ParsedInto input (Accepted n list queries) after) where
+module _ (input : List ℕ) (a : Accepted) (after : List ℕ) (h : ParsedInto input (Ok a) after) where
   good : is_bad_input false (later_lines input) ≡ false
   unfolding parsed_of
   good = by_test (is_bad_input false (later_lines input)) (λ t. absurd (bad (h.answer ∙ (rw t)))) (λ t. t)
     where
-      bad : Accepted n list queries ≡ BadInput → ⊥
+      bad : Ok a ≡ Err Bad → ⊥
       bad e = let z : ◌≡◌ {A = ℕ} 0 1 = cc in omega arith
 
-  parts : (list ≡ length (list_of (later_lines input))) × (queries ≡ queries_place input)
+  parts : (a.list ≡ length (list_of (later_lines input))) × (a.queries ≡ queries_place input)
   unfolding parsed_of
-  parts = accepted_parts n list queries (alphabet_of 26 (without_end (first_line input))) _ _ (h.answer ∙ (rw good))
+  parts = accepted_parts a (alphabet_of 26 (without_end (first_line input))) _ _ (h.answer ∙ (rw good))
 
   -- the bytes in front are the list
-  pub parse_list : take list after ≡ list_of (later_lines input)
+  pub parse_list : take a.list after ≡ list_of (later_lines input)
   unfolding fronted_by
-  parse_list = ap (take list) h.bytes ∙ ap (λ k. take k (fronted_by (list_of (later_lines input)) input)) parts.0 ∙ take-append_seam (list_of (later_lines input)) (drop (length (list_of (later_lines input))) input)
+  parse_list = ap (take a.list) h.bytes ∙ ap (λ k. take k (fronted_by (list_of (later_lines input)) input)) parts.0 ∙ take-append_seam (list_of (later_lines input)) (drop (length (list_of (later_lines input))) input)
 
   -- the list does not reach the queries
-  below : length (list_of (later_lines input)) ≤ queries
+  below : length (list_of (later_lines input)) ≤ a.queries
   unfolding queries_place
   below = omega (arith, ap length (list_run_lem (later_lines input) good), text_few (later_lines input), parts.1)
 
-  lines_behind : lines_of (drop queries after) ≡ after_run plus_mark (later_lines input)
+  lines_behind : lines_of (drop a.queries after) ≡ after_run plus_mark (later_lines input)
   unfolding queries_place
   lines_behind =
-      ap (λ x. lines_of (drop queries x)) h.bytes
-      ∙ ap lines_of (front_drop (list_of (later_lines input)) input queries below)
+      ap (λ x. lines_of (drop a.queries x)) h.bytes
+      ∙ ap lines_of (front_drop (list_of (later_lines input)) input a.queries below)
       ∙ ap (λ k. lines_of (drop k input)) (parts.1 ∙ ap (λ k. k + run_length plus_mark (later_lines input)) (first_size input))
       ∙ sym (ap lines_of (drop-drop (run_length plus_mark (later_lines input)) (line_size input) input))
       ∙ (lines_run plus_mark (later_lines input) (drop (line_size input) input) (sym (later_lines_lem input))).1
 
   -- the walk from their place on gives the queries
-  pub parse_queries : walked_from (length after) after queries ≡ queries_of (later_lines input)
+  pub parse_queries : walked_from (length after) after a.queries ≡ queries_of (later_lines input)
   parse_queries =
-      walk_texts (length after) (after_run plus_mark (later_lines input)) after queries lines_behind
-      (omega (arith, lines_few (after_run plus_mark (later_lines input)) (drop queries after) lines_behind, length-drop queries after))
+      walk_texts (length after) (after_run plus_mark (later_lines input)) after a.queries lines_behind
+      (omega (arith, lines_few (after_run plus_mark (later_lines input)) (drop a.queries after) lines_behind, length-drop a.queries after))
       ∙ sym (asked_texts (after_run plus_mark (later_lines input)) (sym (bad_plus (later_lines input)) ∙ good))
       ∙ sym (plus_texts (later_lines input))
 
 -- ── Places inside the input ──
 
 -- the list stands inside the bytes
-pub list_fits : (input : List ℕ) (n list queries : ℕ) (after : List ℕ) → ParsedInto input (Accepted n list queries) after → list ≤ length after
+pub list_fits : (input : List ℕ) (a : Accepted) (after : List ℕ) → ParsedInto input (Ok a) after → a.list ≤ length after
 unfolding fronted_by
-list_fits input n list queries after h =
-    omega (arith, (parts input n list queries after h).0, ap length h.bytes, length-append (list_of (later_lines input)) (drop (length (list_of (later_lines input))) input))
+list_fits input a after h =
+    omega (arith, (parts input a after h).0, ap length h.bytes, length-append (list_of (later_lines input)) (drop (length (list_of (later_lines input))) input))
 
 -- a query that is found stands inside the bytes, and the next line starts behind the place that was asked
-pub query_fits : (input : List ℕ) (at start size next : ℕ) → Asked start size next ≡ query_at input at → (start + size ≤ length input) × (at < next) × (next ≤ length input)
+pub query_fits : (input : List ℕ) (at : ℕ) (q : Query) → Some q ≡ query_at input at → (q.start + q.size ≤ length input) × (at < q.next) × (q.next ≤ length input)
 unfolding query_at
-query_fits input at start size next e = go (lines_of (drop at input)) refl e
+query_fits input at q e = go (lines_of (drop at input)) refl e
   where
-    go : (ls : List (List ℕ)) → lines_of (drop at input) ≡ ls → Asked start size next ≡ query_as at ls → (start + size ≤ length input) × (at < next) × (next ≤ length input)
-    go [] l q = absurd (let z : ◌≡◌ {A = ℕ} 0 1 = cc in omega arith)
-    go (l ∷ ls) l' q =
+    go : (ls : List (List ℕ)) → lines_of (drop at input) ≡ ls → Some q ≡ query_as at ls → (q.start + q.size ≤ length input) × (at < q.next) × (q.next ≤ length input)
+    go [] l e = absurd (let z : ◌≡◌ {A = ℕ} 0 1 = cc in omega arith)
+    go (l ∷ ls) l' e =
         let k = line_of (drop at input) l ls l' in
-        let a : start ≡ at + 1 = cc in
-        let b : size ≡ length (without_end (drop 1 l)) = cc in
-        let d : next ≡ at + length l = cc in (
+        let same : q ≡ record { start = at + 1; size = length (without_end (drop 1 l)); next = at + length l } = cc in
+        let a : q.start ≡ at + 1 = ap (λ (x : Query). x.start) same in
+        let b : q.size ≡ length (without_end (drop 1 l)) = ap (λ (x : Query). x.size) same in
+        let d : q.next ≡ at + length l = ap (λ (x : Query). x.next) same in (
           omega (arith, a, b, without_length (drop 1 l), word_length_le (drop 1 l), length-drop 1 l, k.some, k.inside, length-drop at input),
           omega (arith, d, k.some),
           omega (arith, d, k.inside, k.some, length-drop at input),

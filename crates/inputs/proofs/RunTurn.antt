@@ -1,6 +1,6 @@
 -- The turns of `run_end` on plain values: the lines before `at` belong to the run.
 -- Assumes nothing.
-use mathlib.Core.Path.{◌≡◌, refl, sym, ◌∙◌}
+use mathlib.Core.Path.{◌≡◌, sym, ◌∙◌}
 use mathlib.Core.List.{List}
 use Prim.Native.Nat.{ℕ, ◌+◌, ◌-◌, ◌<◌, ◌≤◌}
 use native.Mathlib.Omega.{arith}
@@ -15,9 +15,6 @@ pub record Head (input : List ℕ) (from mark at : ℕ) : Type 0 where
   pub passed : at + run_length mark (lines_of (drop at input)) ≡ from + run_length mark (lines_of (drop from input))
 
 module _ {input : List ℕ} {from mark : ℕ} where
-  pub head_first : from ≤ length input → Head input from mark from
-  head_first h = record { inside = h; passed = refl }
-
   pub head_turn : {at next : ℕ} → Head input from mark at → at < length input → get_or input at 0 ≡ mark → next ≡ next_start input at → Head input from mark next
   head_turn {at} {next} h l e n =
       let t = run_turn mark input at next l e n in

@@ -2,29 +2,41 @@
 #![tactic(auto)]
 
 ghost use Rattle.std.specs.Prelude.{◌≡◌, ◌+◌, ◌-◌, ◌≤◌, length, drop, [], ◌∷◌};
-ghost use Rattle.inputs.specs.Inputs.{lines_of, first_line, without_end, plus_mark, alphabet_of};
-ghost use Rattle.inputs.specs.Parsed.{run_length, run_text, fronted_by, digit_from, moved_down, ParsedInto, query_at};
+ghost use Rattle.inputs.specs.Inputs.{lines_of, plus_mark, alphabet_of};
+ghost use Rattle.inputs.specs.declared.InputError.TheVariants.{Refused};
+ghost use Rattle.inputs.specs.Parsed.{told, run_length, run_text, fronted_by, digit_from, first_number_of, moved_down, ParsedInto, query_at};
 
-use refusals::Refusal;
+use refusals::{Cause, Refusal, refuse};
 
-// What parsing an input says. Of an accepted one the list stands in the first `list` bytes afterwards, and the lines of
-// the queries from `queries` on.
-#[derive(Clone, Copy)]
-pub enum Parsed {
-    BadInput,
+// What is wrong with an input: its lines, or its first line, which is refused.
+#[derive(Clone, Copy, Debug, PartialEq, Eq)]
+pub enum InputError {
+    Bad,
     Refused(Refusal),
-    Accepted { n: u64, list: usize, queries: usize },
+}
+
+impl From<Refusal> for InputError {
+    ghost from_gives = { λ r e. e ≡ Refused r };
+
+    fn from(r: Refusal) -> InputError {
+        InputError::Refused(r)
+    }
+}
+
+// An accepted input. The list stands in its first `list` bytes now, and the lines of the queries from `queries` on.
+#[derive(Clone, Copy, Debug, PartialEq, Eq)]
+pub struct Accepted {
+    pub n: u64,
+    pub list: usize,
+    pub queries: usize,
 }
 
 // A line as a query: where its text starts, its bytes, and where the next line starts.
-#[derive(Clone, Copy)]
-pub enum Query {
-    Ended,
-    Asked {
-        start: usize,
-        size: usize,
-        next: usize,
-    },
+#[derive(Clone, Copy, Debug, PartialEq, Eq)]
+pub struct Query {
+    pub start: usize,
+    pub size: usize,
+    pub next: usize,
 }
 
 // Where the run of lines with this mark ends that starts at `from`.
@@ -42,23 +54,20 @@ fn run_end(input: &[u8], from: usize, mark: u8) -> usize
     at
 }
 
-// The number of a digit from `low` to `high`, with `tens` added, or 0.
-fn digit_from(low: u8, high: u8, tens: u64, b: u8) -> u64
+// The number of a digit from `low` to `high`, with `tens` added, if it is one.
+fn digit_from(low: u8, high: u8, tens: u64, b: u8) -> Option<u64>
     requires { (48 ≤ low) × (tens ≤ 20) }
     ensures digit { result ≡ digit_from low high tens b }
 {
-    if b < low {
-        return 0;
+    if b < low || high < b {
+        return None;
     }
-    if high < b {
-        return 0;
-    }
-    tens + (b - 48) as u64
+    Some(tens + u64::from(b - 48))
 }
 
-// The number of two digits from 10 to 26, or 0.
-fn two_digits(a: u8, b: u8) -> u64
-    ensures number { result ≡ alphabet_of 26 (a ∷ b ∷ []) }
+// The number of two digits from 10 to 26, if it is one.
+fn two_digits(a: u8, b: u8) -> Option<u64>
+    ensures number { result ≡ told (alphabet_of 26 (a ∷ b ∷ [])) }
 {
     if a == 49 {
         return digit_from(48, 57, 10, b);
@@ -66,37 +75,28 @@ fn two_digits(a: u8, b: u8) -> u64
     if a == 50 {
         return digit_from(48, 54, 20, b);
     }
-    0
+    None
 }
 
-// n of a first line: the number of 1 to 26 that it is, or 0.
-fn alphabet_of(line: &[u8]) -> u64
-    ensures alphabet { result ≡ alphabet_of 26 line.now }
+// n of a first line: the number of 1 to 26 that it is, if it is one.
+fn alphabet_of(line: &[u8]) -> Option<u64>
+    ensures alphabet { result ≡ told (alphabet_of 26 line.now) }
 {
-    let size = line.len();
-    if size == 1 {
-        return digit_from(49, 57, 0, line[0]);
+    match *line {
+        [b] => digit_from(49, 57, 0, b),
+        [a, b] => two_digits(a, b),
+        _ => None,
     }
-    if size == 2 {
-        return two_digits(line[0], line[1]);
-    }
-    0
 }
 
-// Puts the bytes from `from` to `end` to the place `to`, the first one first. Answers where they end.
+// Puts the bytes from `from` to `end` to the place `to`. Answers where they end.
 fn move_down(input: &mut [u8], from: usize, end: usize, to: usize) -> usize
     requires { (to ≤ from) × (from ≤ end) × (end ≤ length input.old) }
     ensures place { result ≡ to + (end - from) }
     ensures moved { input.new ≡ moved_down input.old from end to }
 {
-    let mut i = from;
-    let mut k = to;
-    while i < end {
-        input[k] = input[i];
-        i += 1;
-        k += 1;
-    }
-    k
+    input.copy_within(from..end, to);
+    to + (end - from)
 }
 
 // Puts the texts of the '+' lines from `from` to `end` together at the front. Answers their bytes.
@@ -115,41 +115,38 @@ fn gather(input: &mut [u8], from: usize, end: usize) -> usize
     list
 }
 
-// n of the first line, or 0.
-fn first_number(input: &[u8]) -> u64
-    ensures number { result ≡ alphabet_of 26 (without_end (first_line input.now)) }
+// n of the first line, or refusal 1.
+fn first_number(input: &[u8]) -> Result<u64, Refusal>
+    ensures number { result ≡ first_number_of input.now }
 {
     let size = words::word_length(input);
-    alphabet_of(&input[..size])
+    alphabet_of(&input[..size]).ok_or(refuse(Cause::Alphabet, 0))
 }
 
 // Finds n, the list and the queries, and puts the list in front. Bad input is found first: after the first line come
 // '+' lines, then '?' lines, and nothing else.
-pub fn parse(input: &mut [u8]) -> Parsed
+pub fn parse(input: &mut [u8]) -> Result<Accepted, InputError>
     ensures parsed { ParsedInto input.old result input.new }
 {
     let first = lists::next_start(input, 0);
-    let queries = run_end(input, first, 43);
-    if run_end(input, queries, 63) < input.len() {
-        return Parsed::BadInput;
+    let queries = run_end(input, first, b'+');
+    if run_end(input, queries, b'?') < input.len() {
+        return Err(InputError::Bad);
     }
-    let n = first_number(input);
-    if n == 0 {
-        return Parsed::Refused(refusals::refuse(1, 0));
-    }
+    let n = first_number(input)?;
     let list = gather(input, first, queries);
-    Parsed::Accepted { n, list, queries }
+    Ok(Accepted { n, list, queries })
 }
 
-// The line that starts at `at`, as a query.
-pub fn query_at(input: &[u8], at: usize) -> Query
+// The line that starts at `at`, as a query, if there is one.
+pub fn query_at(input: &[u8], at: usize) -> Option<Query>
     ensures query { result ≡ query_at input.now at }
 {
     if input.len() <= at {
-        return Query::Ended;
+        return None;
     }
     let start = at + 1;
     let next = lists::next_start(input, at);
     let size = words::word_length(&input[start..next]);
-    Query::Asked { start, size, next }
+    Some(Query { start, size, next })
 }

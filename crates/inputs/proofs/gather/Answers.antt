@@ -1,5 +1,5 @@
 use native.Mathlib.Omega.{arith}
-use Rattle.inputs.proofs.MoveTurn.{gather_first, gather_asks, gather_turn, gather_less, gather_size, gather_done}
+use Rattle.inputs.proofs.GatherTurn.{gather_first, gather_asks, gather_turn, gather_less, gather_size, gather_done}
 use Rattle.inputs.proofs.gather.Goals as goal
 
 pub loop-at-init : goal.loop-at-init

@@ -1,7 +1,7 @@
--- `inputs::gather` meets its contract. The loop: the texts of the lines before `at` stand in front (`MoveTurn`).
+-- `inputs::gather` meets its contract. The loop: the texts of the lines before `at` stand in front (`GatherTurn`).
 -- Assumes nothing.
 use Prim.Native.Nat.{◌-◌}
-use Rattle.inputs.proofs.MoveTurn.{Gather}
+use Rattle.inputs.proofs.GatherTurn.{Gather}
 use Rattle.inputs.proofs.gather.Given as goal
 
 abbrev pub invariant-loop-at : goal.invariant-loop-at

@@ -1,90 +1,21 @@
--- The turns of `move_down` and `gather` on plain values.
---   Head        : of the bytes to move those before place i are moved
---   Gather      : the texts of the lines before `at` stand in front
+-- The turns of `gather` on plain values.
+--   front_drop, line_text : what stands behind the text in front, and behind the mark of a line
+--   Gather                : the texts of the lines before `at` stand in front
 -- Assumes nothing.
 use mathlib.Core.Path.{◌≡◌, refl, sym, ◌∙◌, ap, subst}
 use mathlib.Core.Logic.{by_cases}
 use mathlib.Core.List.{List, [], ◌∷◌, ◌++◌, append_assoc, append-nil}
 use Prim.Native.Nat.{ℕ, suc, ◌+◌, ◌-◌, ◌<◌, ◌≤◌}
 use native.Mathlib.Decide.{dec_le}
-use native.Mathlib.Nat.{sub_self}
 use native.Mathlib.Omega.{arith}
-use lib.ListN.{length, get_or, take, drop, set, length-drop, length-append}
-use lib.Seq.{paste, paste-zero, paste-suc, length-paste, drop-paste, get_or-drop, drop-drop, drop-append-add, take-append_seam}
+use lib.ListN.{length, take, drop, length-drop, length-append}
+use lib.Seq.{drop-drop, drop-append-add, take-append_seam}
 use Rattle.theory.proofs.WordLaws.{by_test}
 use Rattle.lists.specs.Counts.{next_start}
 use Rattle.inputs.specs.Inputs.{lines_of, plus_mark, is_marked}
 use Rattle.inputs.specs.Parsed.{run_length, run_text, fronted_by, moved_down}
 use Rattle.inputs.proofs.LineLaws.{LineAt, some_line, line_of}
 use Rattle.inputs.proofs.MarkLaws.{run_over}
-
--- ── Bytes moved down ──
-
-pub record Head (input₀ : List ℕ) (from end to : ℕ) (input : List ℕ) (i k : ℕ) : Type 0 where
-  pub low : to ≤ from
-  pub after : from ≤ i
-  pub before : i ≤ end
-  pub inside : end ≤ length input₀
-  pub place : k ≡ to + (i - from)
-  pub bytes : input ≡ paste input₀ to (drop from input₀) (i - from)
-
-module _ {input₀ : List ℕ} {from end to : ℕ} where
-  pub head_first : (to ≤ from) × (from ≤ end) × (end ≤ length input₀) → Head input₀ from end to input₀ from to
-  head_first h =
-      record {
-        low = h.0;
-        after = omega arith;
-        before = h.1;
-        inside = h.2;
-        place = omega arith;
-        bytes = paste-zero input₀ to (drop from input₀) ∙ ap (paste input₀ to (drop from input₀)) (sym (sub_self from));
-      }
-
-  pub head_same : {input : List ℕ} {i k : ℕ} → Head input₀ from end to input i k → length input ≡ length input₀
-  head_same {input} {i} {k} h =
-      ap length h.bytes
-      ∙ length-paste input₀ to (drop from input₀) (i - from) (omega (arith, h.low, h.after, h.before, h.inside)) (omega (arith, h.before, h.inside, length-drop from input₀))
-
-  -- what is read is as it was: nothing is written at or behind it
-  read_kept : {input : List ℕ} {i k : ℕ} → Head input₀ from end to input i k → get_or input i 0 ≡ get_or (drop from input₀) (i - from) 0
-  read_kept {input} {i} {k} h =
-      sym (at input) ∙ ap (λ x. get_or x (i - (to + (i - from))) 0) kept ∙ at input₀ ∙ sym (get_or-drop from input₀ (i - from) 0 ∙ ap (λ j. get_or input₀ j 0) (omega (arith, h.after)))
-    where
-      at : (x : List ℕ) → get_or (drop (to + (i - from)) x) (i - (to + (i - from))) 0 ≡ get_or x i 0
-      at x = get_or-drop (to + (i - from)) x (i - (to + (i - from))) 0 ∙ ap (λ j. get_or x j 0) (omega (arith, h.low, h.after))
-
-      kept : drop (to + (i - from)) input ≡ drop (to + (i - from)) input₀
-      kept =
-          ap (drop (to + (i - from))) h.bytes
-          ∙ drop-paste input₀ to (drop from input₀) (i - from) (omega (arith, h.low, h.after, h.before, h.inside)) (omega (arith, h.before, h.inside, length-drop from input₀))
-
-  pub head_turn : {input : List ℕ} {i k : ℕ} → Head input₀ from end to input i k → i < end → Head input₀ from end to (set input k (get_or input i 0)) (i + 1) (k + 1)
-  head_turn {input} {i} {k} h l =
-      record {
-        low = h.low;
-        after = omega (arith, h.after);
-        before = omega arith;
-        inside = h.inside;
-        place = omega (arith, h.place, h.after);
-        bytes =
-            ap (λ b. set input k b) (read_kept h)
-            ∙ ap (λ j. set input j (get_or (drop from input₀) (i - from) 0)) h.place
-            ∙ ap (λ x. set x (to + (i - from)) (get_or (drop from input₀) (i - from) 0)) h.bytes
-            ∙ paste-suc input₀ to (drop from input₀) (i - from) 0 (omega (arith, h.low, h.after, h.inside)) (omega (arith, h.after, h.inside, length-drop from input₀))
-            ∙ ap (paste input₀ to (drop from input₀)) one_more;
-      }
-    where
-      one_more : suc (i - from) ≡ i + 1 - from
-      one_more = omega (arith, h.after)
-
-  pub head_place : {input : List ℕ} {i k : ℕ} → Head input₀ from end to input i k → end ≤ i → k ≡ to + (end - from)
-  head_place h l = omega (arith, h.place, h.before)
-
-  pub head_done : {input : List ℕ} {i k : ℕ} → Head input₀ from end to input i k → end ≤ i → input ≡ moved_down input₀ from end to
-  unfolding moved_down
-  head_done {input} {i} h l = h.bytes ∙ ap (λ e. paste input₀ to (drop from input₀) (e - from)) (omega (arith, h.before))
-
--- ── The texts of '+' lines put together ──
 
 -- behind the text in front all is as it was
 pub front_drop : (text input : List ℕ) (k : ℕ) → length text ≤ k → drop k (fronted_by text input) ≡ drop k input
