@@ -1,4 +1,4 @@
--- Laws of stored lists on plain values: numbers of bytes, check numbers turn by turn, and what the parts of a run make together.
+-- Laws of stored lists on plain values: check numbers turn by turn, and what the parts of a run make together.
 -- Assumes nothing.
 use mathlib.Core.Path.{◌≡◌, refl, sym, ◌∙◌, ap, subst}
 use mathlib.Core.Bool.{true}
@@ -13,22 +13,7 @@ use borrow.Author.Tests.{le-leb, lt-leb}
 use Rattle.cells.specs.Filled.{filled}
 use Rattle.folds.specs.Folds.{FoldOutcome}
 use Rattle.fold_cases.specs.declared.Case.{Case}
-use Rattle.fold_cases.specs.Cases.{four_of, case_of, check_from, check_of, FoldRun, fits, Folds, RunFor, CaseRun}
-
--- ── Numbers ──
-
-pub four_made : (head : List ℕ) (at : ℕ) {a b c d : ℕ}
-    → (a ≡ get_or head at 0) × (a ≤ 255) → (b ≡ get_or head (at + 1) 0) × (b ≤ 255)
-    → (c ≡ get_or head (at + 2) 0) × (c ≤ 255) → (d ≡ get_or head (at + 3) 0) × (d ≤ 255)
-    → (a + 256 * b + 65536 * (c + 256 * d) ≡ four_of head at) × (a + 256 * b + 65536 * (c + 256 * d) < 4294967296)
-unfolding four_of
-four_made head at p q r s = (rw (p.0, q.0, r.0, s.0) refl, omega (arith, p.1, q.1, r.1, s.1))
-
-pub case_made : (head : List ℕ) {low high bytes count size : ℕ}
-    → low ≡ four_of head 0 → high ≡ four_of head 4 → bytes ≡ four_of head 8 → count ≡ four_of head 12 → size ≡ four_of head 16
-    → record { n = low + 4294967296 * high; bytes = bytes; count = count; size = size } ≡ case_of head
-unfolding case_of
-case_made head e₁ e₂ e₃ e₄ e₅ = rw (e₁, e₂, e₃, e₄, e₅) refl
+use Rattle.fold_cases.specs.Cases.{check_from, check_of, FoldRun, fits, Folds, RunFor, CaseRun}
 
 -- ── Check numbers ──
 

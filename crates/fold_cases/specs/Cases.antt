@@ -6,7 +6,9 @@
 --   CaseRun        <-> a case that fits is folded on its own cells, each 777 before, and leaves the others; another leaves all
 -- Assumes nothing.
 use Rattle.std.specs.Prelude.{◌≡◌, Bool, true, false, ◌&&◌, List, [], ◌∷◌, ◌++◌, ℕ, ◌+◌, ◌*◌, ◌%◌, leb, length, get_or, drop, replicate}
-use Rattle.folds.specs.declared.Folded.{Folded}
+use Rattle.std.specs.declared.result.Result.{Result}
+use Rattle.refusals.specs.declared.Refusal.{Refusal}
+use Rattle.folds.specs.declared.FoldFigures.{FoldFigures}
 use Rattle.folds.specs.Folds.{FoldOutcome}
 use Rattle.fold_cases.specs.declared.Case.{Case}
 
@@ -32,7 +34,7 @@ unfoldable pub check_of : List ℕ → ℕ
 check_of cells = check_from 0 cells
 
 abbrev pub FoldRun : ℕ → List ℕ → List ℕ → List ℕ → List ℕ → List ℕ → Type 0
-FoldRun n list table work table' work' = (o : Folded) × FoldOutcome n list table work o table' work'
+FoldRun n list table work table' work' = (o : Result FoldFigures Refusal) × FoldOutcome n list table work o table' work'
 
 unfoldable pub fits : Case → List ℕ → List ℕ → Bool
 fits c table work = leb c.count (length table) && leb c.size (length work)

@@ -7,29 +7,25 @@
 ghost use Rattle.std.specs.Prelude.{◌≡◌, ◌+◌, ◌≤◌, ◌<◌, length};
 ghost use Rattle.fold_cases.specs.Cases.{four_of, case_of, check_of, FoldRun, CaseRun};
 
-use folds::{FoldFigures, Folded};
+use folds::FoldFigures;
 use prints::Output;
+use refusals::Refusal;
 use std::io;
-use tables::Index;
 
 // Writes the index of a subgroup, with a space before it.
-fn print_index(out: &mut Output, index: Index) {
+fn print_index(out: &mut Output, index: Option<u64>) {
     match index {
-        Index::Finite(k) => prints::next(out, k),
-        Index::Infinite => {
-            prints::text(out, b" infinite");
-        }
+        Some(k) => prints::next(out, k),
+        None => prints::text(out, b" infinite"),
     }
 }
 
 // Writes the figures of a fold.
 fn print_figures(out: &mut Output, f: FoldFigures) {
-    let counts = f.counts;
-    let index = counts.index;
     prints::number(out, f.points);
-    prints::next(out, counts.edges);
-    prints::next(out, counts.rank);
-    print_index(out, index);
+    prints::next(out, f.counts.edges);
+    prints::next(out, f.counts.rank);
+    print_index(out, f.counts.index);
     prints::next(out, f.start.points as u64);
     prints::next(out, f.start.edges as u64);
     prints::next(out, f.merging);
@@ -37,10 +33,10 @@ fn print_figures(out: &mut Output, f: FoldFigures) {
 }
 
 // Writes what folding says.
-fn print_outcome(out: &mut Output, o: Folded) {
+fn print_outcome(out: &mut Output, o: Result<FoldFigures, Refusal>) {
     match o {
-        Folded::Refused(r) => prints::refusal(out, r),
-        Folded::Made(f) => print_figures(out, f),
+        Ok(f) => print_figures(out, f),
+        Err(r) => prints::refusal(out, r),
     }
 }
 
@@ -49,16 +45,14 @@ fn check_of(cells: &[u32]) -> u64
     ensures check { result ≡ check_of cells.now }
 {
     let mut h: u64 = 0;
-    let mut i: usize = 0;
-    while i < cells.len() {
-        h = (h * 31 + cells[i] as u64) % 4294967291;
-        i += 1;
+    for &x in cells {
+        h = (h * 31 + u64::from(x)) % 4294967291;
     }
     h
 }
 
 // Writes the line of a list: what is said, the cells of a small table, and the check numbers.
-fn print_line(out: &mut Output, o: Folded, table: &[u32], work: &[u32]) {
+fn print_line(out: &mut Output, o: Result<FoldFigures, Refusal>, table: &[u32], work: &[u32]) {
     print_outcome(out, o);
     if table.len() <= 64 {
         prints::cells(out, table);
@@ -107,9 +101,7 @@ fn four(head: &[u8], at: usize) -> usize
     requires { at + 4 ≤ length head.now }
     ensures number { (result ≡ four_of head.now at) × (result < 4294967296) }
 {
-    let low = case_codes::size(head[at]) + 256 * case_codes::size(head[at + 1]);
-    let high = case_codes::size(head[at + 2]) + 256 * case_codes::size(head[at + 3]);
-    low + 65536 * high
+    u32::from_le_bytes([head[at], head[at + 1], head[at + 2], head[at + 3]]) as usize
 }
 
 // The numbers of a case, from its head.
@@ -117,10 +109,10 @@ fn case_of(head: &[u8]) -> Case
     requires { 20 ≤ length head.now }
     ensures numbers { result ≡ case_of head.now }
 {
-    let low = four(head, 0) as u64;
-    let high = four(head, 4) as u64;
     Case {
-        n: low + 4294967296 * high,
+        n: u64::from_le_bytes([
+            head[0], head[1], head[2], head[3], head[4], head[5], head[6], head[7],
+        ]),
         bytes: four(head, 8),
         count: four(head, 12),
         size: four(head, 16),
@@ -134,8 +126,7 @@ fn main(rt: HostRuntime) -> io::Result<()> {
     let mut list = [0u8; 65600];
     let mut table = [0u32; 262144];
     let mut work = [0u32; 530000];
-    let mut i: usize = 0;
-    while i < 65536 {
+    for _ in 0..65536 {
         if reads::read_full(&mut from, &mut head)? < 20 {
             return out.finish();
         }
@@ -148,7 +139,6 @@ fn main(rt: HostRuntime) -> io::Result<()> {
             return out.finish();
         }
         run_case(&mut out, c, &list[..bytes], &mut table, &mut work);
-        i += 1;
     }
     out.finish()
 }

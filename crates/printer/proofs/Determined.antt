@@ -5,13 +5,14 @@
 use mathlib.Core.Path.{◌≡◌, sym, ◌∙◌, ap, subst}
 use mathlib.Core.List.{List}
 use Prim.Native.Nat.{ℕ}
+use Rattle.std.proofs.Common.{Result, Ok, Err}
+use Rattle.refusals.specs.declared.Refusal.{Refusal}
 use Rattle.bases.proofs.Determined.{basis_determined}
 use Rattle.folds.proofs.Determined.{fold_determined}
-use Rattle.folds.specs.declared.Folded.{Folded}
-use Rattle.folds.specs.declared.Folded.TheVariants.{Refused as FoldRefused, Made}
+use Rattle.folds.specs.declared.FoldFigures.{FoldFigures}
 use Rattle.inputs.proofs.Determined.{parse_determined}
-use Rattle.inputs.specs.declared.Parsed.{Parsed}
-use Rattle.inputs.specs.declared.Parsed.TheVariants.{BadInput, Refused, Accepted}
+use Rattle.inputs.specs.declared.Accepted.{Accepted}
+use Rattle.inputs.specs.declared.InputError.{InputError}
 use Rattle.normals.proofs.Determined.{normal_determined}
 use Rattle.printer.specs.LentCells.{
   BasisRun,
@@ -56,9 +57,9 @@ print_list_determined n list queries b {b₁} {b₂} h k = go k.folded _ moved k
         subst (λ c. AfterFold k.folded n queries c b₁) (λ i. buffers_of b.basis (same.1 i) (same.2 i) b.numbers)
         (subst (λ x. AfterFold x n queries (buffers_of b.basis h.fold_table h.fold_work b.numbers) b₁) same.0 h.after)
 
-    go : (x : Folded) (c : Buffers) → AfterFold x n queries c b₁ → AfterFold x n queries c b₂ → b₁ ≡ b₂
-    go (FoldRefused r) c p q = p ∙ sym q
-    go (Made f) c p q = table_determined p q
+    go : (x : Result FoldFigures Refusal) (c : Buffers) → AfterFold x n queries c b₁ → AfterFold x n queries c b₂ → b₁ ≡ b₂
+    go (Err r) c p q = p ∙ sym q
+    go (Ok f) c p q = table_determined p q
 
 pub print_input_determined : (input : List ℕ) (b : Buffers) {input₁ input₂ : List ℕ} {b₁ b₂ : Buffers}
     → InputDone input b input₁ b₁ → InputDone input b input₂ b₂ → (input₁ ≡ input₂) × (b₁ ≡ b₂)
@@ -68,7 +69,6 @@ print_input_determined input b {input₁} {input₂} {b₁} {b₂} h k =
     same : (h.parsed ≡ k.parsed) × (input₁ ≡ input₂)
     same = parse_determined input _ _ _ _ h.parse k.parse
 
-    go : (x : Parsed) → AfterParse x input b b₁ → AfterParse x input b b₂ → b₁ ≡ b₂
-    go BadInput p q = p ∙ sym q
-    go (Refused r) p q = p ∙ sym q
-    go (Accepted n list queries) p q = print_list_determined n _ _ b p q
+    go : (x : Result Accepted InputError) → AfterParse x input b b₁ → AfterParse x input b b₂ → b₁ ≡ b₂
+    go (Err e) p q = p ∙ sym q
+    go (Ok a) p q = print_list_determined a.n _ _ b p q

@@ -1,4 +1,4 @@
--- Laws of the answers that are printed and of the cells that are left, and what the contracts fix.
+-- Laws of what is printed and of the cells that are left, and what the contracts fix.
 mod PrintLaws
 pub mod LentLaws
 pub mod Determined

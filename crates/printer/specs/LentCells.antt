@@ -5,27 +5,28 @@
 --   ListDone                 <-> a list is folded, and then the table that it makes is asked; after a refused list nothing more is done
 --   InputDone                <-> an input is parsed, and then its list and queries are done; bad or refused input leaves the other buffers
 -- Assumes nothing.
-use Rattle.std.specs.Prelude.{◌≡◌, List, [], ◌∷◌, ℕ, ℤ, length}
-use Rattle.bases.specs.declared.BasisAnswer.{BasisAnswer}
+use Rattle.std.specs.Prelude.{◌≡◌, Bool, List, [], ◌∷◌, ℕ, ℤ, length}
+use Rattle.std.specs.declared.result.Result.{Result}
+use Rattle.std.specs.declared.result.Result.TheVariants.{Ok, Err}
+use Rattle.refusals.specs.declared.Refusal.{Refusal}
+use Rattle.lists.specs.declared.TextSize.{TextSize}
 use Rattle.bases.specs.Bases.{BasisOutcome}
 use Rattle.expressions.specs.Expressions.{express_refusal, work_for, out_for}
-use Rattle.folds.specs.declared.Folded.{Folded}
-use Rattle.folds.specs.declared.Folded.TheVariants.{Refused as FoldRefused, Made}
+use Rattle.folds.specs.declared.FoldFigures.{FoldFigures}
 use Rattle.folds.specs.Folds.{FoldOutcome}
 use Rattle.inputs.specs.Inputs.{later_lines, list_of, queries_of}
-use Rattle.inputs.specs.declared.Parsed.{Parsed}
-use Rattle.inputs.specs.declared.Parsed.TheVariants.{BadInput, Refused, Accepted}
+use Rattle.inputs.specs.declared.Accepted.{Accepted}
+use Rattle.inputs.specs.declared.InputError.{InputError}
 use Rattle.inputs.specs.Parsed.{ParsedInto}
-use Rattle.normals.specs.declared.Judged.{Judged}
 use Rattle.normals.specs.Normals.{NormalOutcome}
 
 -- ── A table ──
 
 abbrev pub BasisRun : ℕ → ℕ → List ℕ → List ℕ → List ℕ → List ℕ → List ℕ → Type 0
-BasisRun n N t work basis work' basis' = (r : BasisAnswer) × BasisOutcome n N t work basis r work' basis'
+BasisRun n N t work basis work' basis' = (r : Result TextSize Refusal) × BasisOutcome n N t work basis r work' basis'
 
 abbrev pub NormalRun : ℕ → ℕ → List ℕ → List ℕ → List ℕ → Type 0
-NormalRun n N t work work' = (r : Judged) × NormalOutcome n N t work r work'
+NormalRun n N t work work' = (r : Result Bool Refusal) × NormalOutcome n N t work r work'
 
 -- the cells that a query is lent
 pub record QueryCells : Type 0 where
@@ -68,12 +69,12 @@ pub record TableAsked (n N : ℕ) (queries : List (List ℕ)) (b b' : Buffers) :
   pub queried : lent b'.work b'.numbers ≡ after_queries n N b.table queries (lent basis_work b.numbers)
 
 -- after folding, by what it says
-abbrev pub AfterFold : Folded → ℕ → List (List ℕ) → Buffers → Buffers → Type 0
-AfterFold (FoldRefused r) n queries b b' = b' ≡ b
-AfterFold (Made f) n queries b b' = TableAsked n f.points queries b b'
+abbrev pub AfterFold : Result FoldFigures Refusal → ℕ → List (List ℕ) → Buffers → Buffers → Type 0
+AfterFold (Err r) n queries b b' = b' ≡ b
+AfterFold (Ok f) n queries b b' = TableAsked n f.points queries b b'
 
 pub record ListDone (n : ℕ) (list : List ℕ) (queries : List (List ℕ)) (b b' : Buffers) : Type 0 where
-  pub folded : Folded
+  pub folded : Result FoldFigures Refusal
   pub fold_table : List ℕ
   pub fold_work : List ℕ
   pub fold : FoldOutcome n list b.table b.work folded fold_table fold_work
@@ -82,13 +83,12 @@ pub record ListDone (n : ℕ) (list : List ℕ) (queries : List (List ℕ)) (b b
 -- ── An input ──
 
 -- after parsing, by what it says: n with the list and the queries of the input, or neither
-abbrev pub AfterParse : Parsed → List ℕ → Buffers → Buffers → Type 0
-AfterParse BadInput input b b' = b' ≡ b
-AfterParse (Refused r) input b b' = b' ≡ b
-AfterParse (Accepted n list queries) input b b' =
-    ListDone n (list_of (later_lines input)) (queries_of (later_lines input)) b b'
+abbrev pub AfterParse : Result Accepted InputError → List ℕ → Buffers → Buffers → Type 0
+AfterParse (Err e) input b b' = b' ≡ b
+AfterParse (Ok a) input b b' =
+    ListDone a.n (list_of (later_lines input)) (queries_of (later_lines input)) b b'
 
 pub record InputDone (input : List ℕ) (b : Buffers) (input' : List ℕ) (b' : Buffers) : Type 0 where
-  pub parsed : Parsed
+  pub parsed : Result Accepted InputError
   pub parse : ParsedInto input parsed input'
   pub after : AfterParse parsed input b b'

@@ -6,14 +6,12 @@ ghost use Rattle.std.specs.Prelude.{◌≡◌, ◌≤◌, length, take};
 ghost use Rattle.inputs.specs.Parsed.{walked_from};
 ghost use Rattle.printer.specs.LentCells.{BasisRun, lent, after_query, after_queries, buffers_of, ListDone, InputDone};
 
-use bases::BasisAnswer;
-use expressions::Expressed;
-use folds::{FoldFigures, Folded};
-use inputs::{Parsed, Query};
-use normals::Judged;
+use folds::FoldFigures;
+use inputs::InputError;
 use prints::Output;
+use refusals::Refusal;
 use std::io;
-use tables::{Figures, Index, Subgroup};
+use tables::{Figures, Subgroup};
 
 // Writes a line of a name and a number.
 fn print_figure(out: &mut Output, name: &[u8], x: u64) {
@@ -23,28 +21,27 @@ fn print_figure(out: &mut Output, name: &[u8], x: u64) {
 }
 
 // Writes the line of the index.
-fn print_index(out: &mut Output, index: Index) {
+fn print_index(out: &mut Output, index: Option<u64>) {
     match index {
-        Index::Finite(k) => print_figure(out, b"index", k),
-        Index::Infinite => prints::text(out, b"index infinite\n"),
+        Some(k) => print_figure(out, b"index", k),
+        None => prints::text(out, b"index infinite\n"),
     }
 }
 
 // Writes the lines of the table's figures.
 fn print_counts(out: &mut Output, points: u64, counts: Figures) {
-    let index = counts.index;
     print_figure(out, b"points", points);
     print_figure(out, b"edges", counts.edges);
     print_figure(out, b"rank", counts.rank);
-    print_index(out, index);
+    print_index(out, counts.index);
 }
 
 // Writes the line that says whether the subgroup is normal.
-fn print_normal(out: &mut Output, judged: Judged) {
-    match judged {
-        Judged::Refused(r) => prints::refused(out, r),
-        Judged::Normal => prints::text(out, b"normal yes\n"),
-        Judged::Other => prints::text(out, b"normal no\n"),
+fn print_normal(out: &mut Output, normal: Result<bool, Refusal>) {
+    match normal {
+        Ok(true) => prints::text(out, b"normal yes\n"),
+        Ok(false) => prints::text(out, b"normal no\n"),
+        Err(r) => prints::refused(out, r),
     }
 }
 
@@ -80,20 +77,18 @@ fn print_basis(out: &mut Output, s: Subgroup, table: &[u32], work: &mut [u32], b
     ensures run { BasisRun s.n s.points table.now work.old basis.old work.new basis.new }
 {
     match bases::basis(s, table, work, basis) {
-        BasisAnswer::Refused(r) => prints::refused(out, r),
-        BasisAnswer::Written { words: _, bytes } => {
-            let size = bytes as usize;
-            print_words(out, &basis[..size]);
+        Ok(size) => {
+            let bytes = size.bytes as usize;
+            print_words(out, &basis[..bytes]);
         }
+        Err(r) => prints::refused(out, r),
     }
 }
 
 // Writes the numbers of an expression.
 fn print_numbers(out: &mut Output, numbers: &[i32]) {
-    let mut i: usize = 0;
-    while i < numbers.len() {
-        prints::signed(out, numbers[i]);
-        i += 1;
+    for &z in numbers {
+        prints::signed(out, z);
     }
 }
 
@@ -123,12 +118,12 @@ fn print_query(
     ensures cells { lent work.new expression.new ≡ after_query s.n s.points table.now query.now (lent work.old expression.old) }
 {
     match expressions::express(s, table, query, work, expression) {
-        Expressed::Refused(r) => prints::refused(out, r),
-        Expressed::Outside => print_outside(out, query),
-        Expressed::Inside(count) => {
+        Ok(Some(count)) => {
             let size = count as usize;
             print_inside(out, query, &expression[..size]);
         }
+        Ok(None) => print_outside(out, query),
+        Err(r) => prints::refused(out, r),
     }
 }
 
@@ -145,17 +140,10 @@ fn print_queries(
     ensures cells { lent work.new expression.new ≡ after_queries s.n s.points table.now (walked_from (length input.now) input.now from) (lent work.old expression.old) }
 {
     let mut at = from;
-    while at < input.len() {
-        match inputs::query_at(input, at) {
-            Query::Ended => {
-                return;
-            }
-            Query::Asked { start, size, next } => {
-                let end = start + size;
-                print_query(out, s, table, &input[start..end], work, expression);
-                at = next;
-            }
-        }
+    while let Some(query) = inputs::query_at(input, at) {
+        let end = query.start + query.size;
+        print_query(out, s, table, &input[query.start..end], work, expression);
+        at = query.next;
     }
 }
 
@@ -175,8 +163,8 @@ fn print_list(
     ensures done { ListDone n (take list input.now) (walked_from (length input.now) input.now queries) (buffers_of basis.old table.old work.old expression.old) (buffers_of basis.new table.new work.new expression.new) }
 {
     match folds::fold(n, &input[..list], table, work) {
-        Folded::Refused(r) => prints::refused(out, r),
-        Folded::Made(f) => {
+        Err(r) => prints::refused(out, r),
+        Ok(f) => {
             let points = f.points;
             let s = Subgroup { n, points };
             print_counts(out, points, f.counts);
@@ -200,10 +188,10 @@ fn print_input(
     ensures done { InputDone input.old (buffers_of basis.old table.old work.old expression.old) input.new (buffers_of basis.new table.new work.new expression.new) }
 {
     match inputs::parse(input) {
-        Parsed::BadInput => prints::text(out, b"bad input\n"),
-        Parsed::Refused(r) => prints::refused(out, r),
-        Parsed::Accepted { n, list, queries } => print_list(
-            out, n, input, list, queries, basis, table, work, expression,
+        Err(InputError::Bad) => prints::text(out, b"bad input\n"),
+        Err(InputError::Refused(r)) => prints::refused(out, r),
+        Ok(a) => print_list(
+            out, a.n, input, a.list, a.queries, basis, table, work, expression,
         ),
     }
 }

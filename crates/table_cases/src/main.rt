@@ -7,31 +7,26 @@ ghost use Rattle.std.specs.Prelude.{◌≡◌, ◌≤◌, length};
 ghost use Rattle.members.specs.Members.{cells_after};
 ghost use Rattle.table_cases.specs.Cases.{case_of, rest_of, asked_cells, CaseRun};
 
-use equals::Equality;
-use members::Answer;
 use prints::Output;
 use std::io;
-use tables::{Checked, Figures, Index, Subgroup};
+use tables::{Figures, Subgroup};
 
 // Writes the counts of a table.
 fn print_figures(out: &mut Output, f: Figures) {
     prints::text(out, b"counts");
     prints::next(out, f.edges);
     prints::next(out, f.rank);
-    let index = f.index;
-    match index {
-        Index::Finite(k) => prints::next(out, k),
-        Index::Infinite => {
-            prints::text(out, b" infinite");
-        }
+    match f.index {
+        Some(k) => prints::next(out, k),
+        None => prints::text(out, b" infinite"),
     }
 }
 
 // A table is checked.
 fn run_check(out: &mut Output, s: Subgroup, table: &[u32]) {
     match tables::check(s, table) {
-        Checked::Refused(r) => prints::refusal(out, r),
-        Checked::Counted(f) => print_figures(out, f),
+        Ok(f) => print_figures(out, f),
+        Err(r) => prints::refusal(out, r),
     }
 }
 
@@ -40,13 +35,9 @@ fn run_member(out: &mut Output, s: Subgroup, table: &[u32], query: &[u8], work: 
     ensures cells { work.new ≡ cells_after s.n s.points table.now query.now work.old }
 {
     match members::member(s, table, query, work) {
-        Answer::Refused(r) => prints::refusal(out, r),
-        Answer::Inside => {
-            prints::text(out, b"inside");
-        }
-        Answer::Outside => {
-            prints::text(out, b"outside");
-        }
+        Ok(true) => prints::text(out, b"inside"),
+        Ok(false) => prints::text(out, b"outside"),
+        Err(r) => prints::refusal(out, r),
     }
     prints::text(out, b" work");
     prints::cells(out, work);
@@ -55,13 +46,9 @@ fn run_member(out: &mut Output, s: Subgroup, table: &[u32], query: &[u8], work: 
 // Two tables are compared.
 fn run_equal(out: &mut Output, a: Subgroup, first: &[u32], b: Subgroup, second: &[u32]) {
     match equals::equal(a, first, b, second) {
-        Equality::Refused(r) => prints::refusal(out, r),
-        Equality::Yes => {
-            prints::text(out, b"equal");
-        }
-        Equality::No => {
-            prints::text(out, b"different");
-        }
+        Ok(true) => prints::text(out, b"equal"),
+        Ok(false) => prints::text(out, b"different"),
+        Err(r) => prints::refusal(out, r),
     }
 }
 
@@ -166,8 +153,7 @@ fn main(rt: HostRuntime) -> io::Result<()> {
     let mut first = [0u32; 64];
     let mut second = [0u32; 64];
     let mut work = [0u32; 64];
-    let mut i: usize = 0;
-    while i < 65536 {
+    for _ in 0..65536 {
         if reads::read_full(&mut from, &mut head)? < 16 {
             return out.finish();
         }
@@ -187,7 +173,6 @@ fn main(rt: HostRuntime) -> io::Result<()> {
             &mut second,
             &mut work,
         );
-        i += 1;
     }
     out.finish()
 }

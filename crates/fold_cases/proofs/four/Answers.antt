@@ -1,7 +1,9 @@
--- `fold_cases::four` meets its contract (`CaseLaws`).
+-- `fold_cases::four` meets its contract: the least byte first.
 -- Assumes nothing.
-use Rattle.fold_cases.proofs.CaseLaws.{four_made}
+use Rattle.std.proofs.Common.{arith}
+use Rattle.fold_cases.specs.Cases.{four_of}
 use Rattle.fold_cases.proofs.four.Goals as goal
 
 pub returns : goal.returns
-returns c = record { number = four_made _ _ c.size.ensures.size c.size-2.ensures.size c.size-3.ensures.size c.size-4.ensures.size }
+unfolding four_of
+returns c = record { number = (omega (arith, c.from_le_bytes.ensures), omega (arith, c.from_le_bytes.type_inv)) }
