@@ -4,7 +4,7 @@
 ghost use Rattle.std.specs.Prelude.{◌≡◌, ◌≤◌, length};
 ghost use Rattle.cells.specs.Filled.{filled};
 
-// The mark of a table's cell that leads nowhere.
+// The mark of a table's cell that leads nowhere: a number among the cells, as document 01's table and file have it.
 pub const ABSENT: u32 = u32::MAX;
 
 // Puts `value` into the first `count` cells.

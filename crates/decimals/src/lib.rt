@@ -10,6 +10,7 @@ fn count_digits(x: u64) -> usize
 {
     let mut rest = x;
     let mut n: usize = 1;
+    // No `for`: how often ten divides is what is asked.
     while 9 < rest {
         rest = rest / 10;
         n += 1;

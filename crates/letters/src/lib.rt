@@ -14,7 +14,7 @@ const LETTERS: [u8; 52] = [
 ];
 
 // What a byte of a text is. A letter carries the number of its generator, from 1.
-#[derive(Clone, Copy)]
+#[derive(Clone, Copy, Debug, PartialEq, Eq)]
 pub enum Class {
     Lower(u8),
     Upper(u8),
@@ -34,7 +34,7 @@ pub fn class_of(b: u8) -> Class
     }
 }
 
-// The number of the letter with this byte; 52 for a byte that is no letter.
+// The number of the letter with this byte; 52 for a byte that is no letter, as theory's `letter_of` has it.
 pub fn letter_of(b: u8) -> u32
     ensures letter { result ≡ letter_of b }
 {

@@ -1,6 +1,6 @@
 -- A refusal as code holds it, and answers that may be one.
 --   number_of cause       == its number in document 01's table
---   cause_of k            == the cause of number k; no refusal has another than 1 to 12 (`proofs/RefusalLaws`)
+--   cause_of k            == the cause of number k; no cause of a function has another than 1 to 12 (accords, `proofs/RefusedFirst`, and the `.._numbered` of `proofs/NumberLaws` and others)
 --   refusal_at cause p    == the refusal for this cause at place p
 --   given r               == the refusal r of theory's `Refusals`
 --   unless o a            == the answer a where there is no refusal o, else that refusal

@@ -79,7 +79,7 @@ pub fn check_alphabet(n: u64) -> Result<(), Refusal>
     Ok(())
 }
 
-// Refuses a buffer of fewer cells than are needed, by 7 or 9.
+// Refuses a buffer of fewer cells or bytes than are needed, by the cause that is given.
 pub fn check_room(cause: Cause, needed: u64, room: u64) -> Result<(), Refusal>
     ensures checked { result ≡ unless_short cause needed room }
 {

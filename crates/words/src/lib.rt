@@ -6,7 +6,7 @@ ghost use Rattle.theory.specs.Letters.{word_length};
 ghost use Rattle.words.specs.Reduction.{Pushed, ReducedInto};
 
 // What reducing a word says: the letters that were read, and the letters that are left.
-#[derive(Clone, Copy)]
+#[derive(Clone, Copy, Debug, PartialEq, Eq)]
 pub struct Reduced {
     pub read: usize,
     pub left: usize,
