@@ -45,6 +45,7 @@ fn run_end(input: &[u8], from: usize, mark: u8) -> usize
     ensures end { result ≡ from + run_length mark (lines_of (drop from input.now)) }
 {
     let mut at = from;
+    // From line to line: no index is counted.
     while at < input.len() {
         if input[at] != mark {
             return at;
@@ -107,6 +108,7 @@ fn gather(input: &mut [u8], from: usize, end: usize) -> usize
 {
     let mut list: usize = 0;
     let mut at = from;
+    // From line to line: no index is counted.
     while at < end {
         let next = lists::next_start(input, at);
         list = move_down(input, at + 1, next, list);

@@ -186,6 +186,7 @@ pub fn start_size(list: &[u8], work: &mut [u32]) -> StartSize
     let mut points: usize = 1;
     let mut edges: usize = 0;
     let mut at: usize = 0;
+    // From word to word, each handed on where it starts: no index is counted, and no slice iterator says `next_start`.
     while at < list.len() {
         let word = words::reduce(&list[at..], work);
         points += new_points(word.left);

@@ -57,6 +57,7 @@ pub fn number_size(x: u64) -> usize
 {
     let mut rest = x;
     let mut size: usize = 1;
+    // No `for`: as long as groups are left.
     while 127 < rest {
         rest = rest / 128;
         size += 1;
@@ -71,6 +72,7 @@ pub fn write_number(out: &mut [u8], at: usize, x: u64) -> usize
 {
     let mut rest = x;
     let mut i = at;
+    // No `for`: as long as groups are left.
     while 127 < rest {
         out[i] = 128 + (rest % 128) as u8;
         rest = rest / 128;

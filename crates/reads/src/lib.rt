@@ -12,6 +12,7 @@ pub fn read_full(from: &mut io::Stdin, buf: &mut [u8]) -> io::Result<usize>
     ensures within { IfOk result (λ n. n ≤ length buf.new) }
 {
     let mut done: usize = 0;
+    // No `for`: a read gives as many bytes as it likes.
     while done < buf.len() {
         let got = from.read(&mut buf[done..])?;
         if got == 0 {
