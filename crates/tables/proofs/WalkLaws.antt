@@ -1,5 +1,6 @@
 -- What a result of `walk` tells (`specs/Walks`), for those who call it.
 --   walk_ok, walk_err       : no refusal, and what was counted; or which refusal
+--   walk_verdict            : only whether it was refused, and by what
 --   walk_sound, walk_faulty : no faulty cell, or which
 --   walk_edges, walk_full   : the counts of a sound walk
 --   walk_canonical          : a table of a sound walk is canonical
@@ -13,6 +14,7 @@ use Prim.Native.Nat.{ℕ, zero, suc, ◌+◌, ◌*◌, ◌≤◌}
 use native.Mathlib.Nat.{suc-mul}
 use native.Mathlib.Omega.{arith}
 use lib.ListN.{length, length-append, length-map}
+use Rattle.std.specs.declared.result.Result.{Result}
 use Rattle.std.specs.declared.result.Result.TheVariants.{Ok, Err}
 use Rattle.theory.specs.Letters.{usual}
 use Rattle.theory.specs.Refusals.{Refusal as FirstCause}
@@ -28,10 +30,12 @@ use Rattle.theory.proofs.EdgeLaws.{those_length}
 use Rattle.theory.proofs.EdgeCounts.{table_connected}
 use Rattle.refusals.specs.declared.Cause.TheVariants.{Faulty}
 use Rattle.refusals.specs.declared.Refusal.{Refusal}
-use Rattle.refusals.specs.Given.{given}
+use Rattle.refusals.specs.Given.{given, unless}
 use Rattle.refusals.proofs.UnlessLaws.{unless_ok, unless_err}
+use Rattle.tables.specs.Lent.{verdict}
 use Rattle.tables.specs.Walks.{walk_of, walked_as}
 use Rattle.tables.specs.declared.Walked.{Walked}
+use Rattle.tables.proofs.LentLaws.{verdict_unless}
 
 -- the scan of N rows has N times as many spots as there are letters
 scan_length : (N : ℕ) (ys : List ℕ) → length (scan N ys) ≡ N * length ys
@@ -61,6 +65,11 @@ module _ (n N : ℕ) (t : List ℕ) where
   pub walk_err : {r : Refusal} → Err r ≡ walked_as n N t → (c : FirstCause) × (cell_refusal n N t ≡ some c) × (r ≡ given c)
   unfolding walked_as
   walk_err e = unless_err (cell_refusal n N t) (walk_of n N t) e
+
+  -- whatever it counts
+  pub walk_verdict : {r : Result Walked Refusal} → r ≡ walked_as n N t → verdict r ≡ unless (cell_refusal n N t) (tt {0})
+  unfolding walked_as
+  walk_verdict e = ap verdict e ∙ verdict_unless (cell_refusal n N t) (walk_of n N t)
 
   pub walk_sound : {w : Walked} → Ok w ≡ walked_as n N t → faulty_cell N (usual n) (cell n N t) ≡ none
   unfolding cell_refusal

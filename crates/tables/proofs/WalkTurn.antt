@@ -20,8 +20,7 @@ use borrow.Author.Tests.{eq-eqb, ne_eqb, lt-ltb, le-ltb}
 use Rattle.std.specs.declared.result.Result.TheVariants.{Ok, Err}
 use Rattle.theory.specs.Letters.{usual, StandsIn}
 use Rattle.theory.specs.Graphs.{is_lower}
-use Rattle.theory.specs.Refusals.{is_alphabet}
-use Rattle.theory.specs.TableRefusals.{is_lent, at_cell, cell_refusal}
+use Rattle.theory.specs.TableRefusals.{at_cell, cell_refusal}
 use Rattle.theory.specs.Tables.{absent, Cells, cell}
 use Rattle.theory.specs.Canonical.{
   row_of,
@@ -52,9 +51,11 @@ use Rattle.refusals.specs.declared.Refusal.{Refusal}
 use Rattle.refusals.specs.Given.{refusal_at}
 use Rattle.refusals.proofs.UnlessLaws.{ok_unless, err_unless}
 use Rattle.tables.specs.Walks.{walk_of, walked_as}
-use Rattle.tables.specs.Cells.{Inside, is_thin, row_broken, broken_at, visited_as}
+use Rattle.tables.specs.Lent.{IsLent}
+use Rattle.tables.specs.Cells.{row_broken, broken_at, visited_as}
 use Rattle.tables.specs.declared.Seen.{Seen}
-use Rattle.tables.proofs.CellTurn.{inside_sizes, place_in, cell_outside, cell_beyond}
+use Rattle.tables.proofs.LentLaws.{place_in}
+use Rattle.tables.proofs.CellTurn.{next_cell}
 use Rattle.tables.proofs.ScanLaws.{
   and_none,
   those_more,
@@ -99,11 +100,6 @@ at_most_one false = omega arith
 
 -- ── The state of the walk ──
 
--- a cell of a lent table
-pub inside : {n N : ℕ} {t : List ℕ} {v y : ℕ} → (is_alphabet n ≡ true) × (is_lent n N (length t) ≡ true) → v < N → y < 2 * n
-    → Inside n N t v y
-inside g h k = record { alphabet = g.0; lent = g.1; point = h; letter = k }
-
 pub record Head (n N : ℕ) (t : List ℕ) (v y : ℕ) (seen : Seen) : Type 0 where
   pub point : v ≤ N
   pub letter : y ≤ 2 * n
@@ -130,7 +126,7 @@ module _ (n N : ℕ) (t : List ℕ) where
         few = omega arith;
       }
 
-module _ {n N : ℕ} {t : List ℕ} {v y : ℕ} {seen : Seen} (H : Head n N t v y seen) (I : Inside n N t v y) where
+module _ {n N : ℕ} {t : List ℕ} {v y : ℕ} {seen : Seen} (L : IsLent n N t) (H : Head n N t v y seen) (hv : v < N) (hy : y < 2 * n) where
   -- v was met before its row exactly if it is at most the greatest point met
   met_test : y ≡ 0 → 0 < v → not (is_in v (rows_before (cell n N t) (usual n) v)) ≡ ltb seen.met v
   unfolding earlier
@@ -140,7 +136,7 @@ module _ {n N : ℕ} {t : List ℕ} {v y : ℕ} {seen : Seen} (H : Head n N t v 
       start = ap (λ i. rows_before (cell n N t) (usual n) v ++ take i (row_of (cell n N t) (usual n) v)) e ∙ append-nil (rows_before (cell n N t) (usual n) v)
 
       number : v ≡ absent → ⊥
-      number q = omega (arith, I.point, (inside_sizes I).points)
+      number q = omega (arith, hv, L.points)
 
       unmet : seen.met < v → not (is_in v (rows_before (cell n N t) (usual n) v)) ≡ ltb seen.met v
       unmet k =
@@ -162,9 +158,9 @@ module _ {n N : ℕ} {t : List ℕ} {v y : ℕ} {seen : Seen} (H : Head n N t v 
 
   -- the test of the walk is that of the rules
   broken_faulty : broken_at n N t v y seen.met ≡ is_faulty N (usual n) (cell n N t) v y
-  unfolding broken_at row_broken is_thin is_faulty breaks_row
+  unfolding is_faulty breaks_row
   broken_faulty =
-      rw (get_or_usual n y I.letter, sym H.met)
+      rw (get_or_usual n y hy, sym H.met)
       (by_cases (ℕ_discrete y 0)
       (λ e. by_cases (dec_lt 0 v) (λ h. rw (met_test e h)) (λ h. rw (le-ltb 0 v (omega arith))))
       (λ e. rw (ne_eqb y 0 e)))
@@ -177,8 +173,8 @@ module _ {n N : ℕ} {t : List ℕ} {v y : ℕ} {seen : Seen} (H : Head n N t v 
       first : IsFirst (is_faulty N (usual n) (cell n N t)) N (length (usual n)) v y
       first =
           record {
-            row_in = I.point;
-            index_in = omega (arith, I.letter, length_usual n);
+            row_in = hv;
+            index_in = omega (arith, hy, length_usual n);
             passes = sym broken_faulty ∙ sym q ∙ e;
             none_before = H.clear;
           }
@@ -186,7 +182,7 @@ module _ {n N : ℕ} {t : List ℕ} {v y : ℕ} {seen : Seen} (H : Head n N t v 
       found : faulty_cell N (usual n) (cell n N t) ≡ some (v * (2 * n) + y)
       found =
           ap (position_of (usual n)) (first_place_is (is_faulty N (usual n) (cell n N t)) N (length (usual n)) v y first)
-          ∙ ap some (ap (λ w. v * w + get_or (usual n) y 0) (length_usual n) ∙ ap (λ z. v * (2 * n) + z) (get_or_usual n y I.letter))
+          ∙ ap some (ap (λ w. v * w + get_or (usual n) y 0) (length_usual n) ∙ ap (λ z. v * (2 * n) + z) (get_or_usual n y hy))
 
   -- a cell that is not faulty is passed
   clear_more : {b : Bool} → b ≡ broken_at n N t v y seen.met → b ≡ false
@@ -199,17 +195,11 @@ module _ {n N : ℕ} {t : List ℕ} {v y : ℕ} {seen : Seen} (H : Head n N t v 
 
   -- the cell breaks none of its rules
   cell_kept : broken_at n N t v y seen.met ≡ false → breaks_cell N (cell n N t) v y seen.met ≡ false
-  unfolding broken_at
   cell_kept e = or_right (eqb y 0 && row_broken n N t v seen.met) (breaks_cell N (cell n N t) v y seen.met) e
 
   -- where it leads somewhere, that is at most the next point
   next_point : broken_at n N t v y seen.met ≡ false → (cell n N t v y ≡ absent → ⊥) → cell n N t v y ≤ suc seen.met
-  next_point e m =
-      by_cases (dec_lt (suc seen.met) (cell n N t v y))
-      (λ h. by_cases (dec_lt (cell n N t v y) N)
-      (λ k. passes_fails (sym (cell_beyond n N t v y seen.met refl m k (omega arith))) (cell_kept e))
-      (λ k. passes_fails (sym (cell_outside n N t v y seen.met refl m (omega arith))) (cell_kept e)))
-      (λ h. omega arith)
+  next_point e m = next_cell N (cell n N t) v y seen.met (cell_kept e) m
 
   edges_more : seen.edges + cond (is_lower y && not (eqb (cell n N t v y) absent)) 1 0 ≡ length (those (is_edge (cell n N t)) (spots_to (usual n) v (suc y)))
   edges_more =
@@ -217,14 +207,14 @@ module _ {n N : ℕ} {t : List ℕ} {v y : ℕ} {seen : Seen} (H : Head n N t v 
         arith,
         H.edges,
         those_more (is_edge (cell n N t)) (spots_to (usual n) v y) (spot v y),
-        ap (λ l. length (those (is_edge (cell n N t)) l)) (spots_more n v y I.letter),
+        ap (λ l. length (those (is_edge (cell n N t)) l)) (spots_more n v y hy),
       )
 
   full_more : (seen.full && not (eqb (cell n N t v y) absent)) ≡ all (is_there (cell n N t)) (spots_to (usual n) v (suc y))
   full_more =
       ap (λ b. b && not (eqb (cell n N t v y) absent)) H.full
       ∙ sym (all_more (is_there (cell n N t)) (spots_to (usual n) v y) (spot v y))
-      ∙ sym (ap (all (is_there (cell n N t))) (spots_more n v y I.letter))
+      ∙ sym (ap (all (is_there (cell n N t))) (spots_more n v y hy))
 
   absent_turn : broken_at n N t v y seen.met ≡ false → cell n N t v y ≡ absent
       → Head n N t v (suc y) (record { met = seen.met; edges = seen.edges; full = false })
@@ -232,10 +222,10 @@ module _ {n N : ℕ} {t : List ℕ} {v y : ℕ} {seen : Seen} (H : Head n N t v 
       let q = eq-eqb (cell n N t v y) absent m in
       record {
         point = H.point;
-        letter = omega (arith, I.letter);
+        letter = omega (arith, hy);
         clear = clear_more refl e;
-        met = H.met ∙ sym (ap greatest_met (before_more (cell n N t) n v y I.letter) ∙ greatest_absent (earlier (cell n N t) (usual n) v y) (cell n N t v y) m);
-        dense = λ x h. subst (λ l. Met l x) (sym (before_more (cell n N t) n v y I.letter)) (dense_absent (earlier (cell n N t) (usual n) v y) seen.met (cell n N t v y) H.dense x h);
+        met = H.met ∙ sym (ap greatest_met (before_more (cell n N t) n v y hy) ∙ greatest_absent (earlier (cell n N t) (usual n) v y) (cell n N t v y) m);
+        dense = λ x h. subst (λ l. Met l x) (sym (before_more (cell n N t) n v y hy)) (dense_absent (earlier (cell n N t) (usual n) v y) seen.met (cell n N t v y) H.dense x h);
         edges = omega (arith, edges_more, ap {B = ℕ} (λ b. cond (is_lower y && not b) 1 0) q, ap {B = ℕ} (λ b. cond b 1 0) (and_none (is_lower y)));
         full = sym (and_none seen.full) ∙ sym (ap (λ b. seen.full && not b) q) ∙ full_more;
         few = omega (arith, H.few);
@@ -247,10 +237,10 @@ module _ {n N : ℕ} {t : List ℕ} {v y : ℕ} {seen : Seen} (H : Head n N t v 
       let q = ne_eqb (cell n N t v y) absent m in
       record {
         point = H.point;
-        letter = omega (arith, I.letter);
+        letter = omega (arith, hy);
         clear = clear_more refl e;
-        met = ap (λ g. max g (cell n N t v y)) H.met ∙ sym (ap greatest_met (before_more (cell n N t) n v y I.letter) ∙ greatest_more (earlier (cell n N t) (usual n) v y) (cell n N t v y) m);
-        dense = λ x h. subst (λ l. Met l x) (sym (before_more (cell n N t) n v y I.letter)) (dense_more (earlier (cell n N t) (usual n) v y) seen.met (cell n N t v y) H.dense m (next_point e m) x h);
+        met = ap (λ g. max g (cell n N t v y)) H.met ∙ sym (ap greatest_met (before_more (cell n N t) n v y hy) ∙ greatest_more (earlier (cell n N t) (usual n) v y) (cell n N t v y) m);
+        dense = λ x h. subst (λ l. Met l x) (sym (before_more (cell n N t) n v y hy)) (dense_more (earlier (cell n N t) (usual n) v y) seen.met (cell n N t v y) H.dense m (next_point e m) x h);
         edges = omega (arith, edges_more, ap {B = ℕ} (λ b. cond (is_lower y && not b) 1 0) q, ap {B = ℕ} (λ b. cond b 1 0) (and_some (is_lower y)));
         full = sym (and_some seen.full) ∙ sym (ap (λ b. seen.full && not b) q) ∙ full_more;
         few = omega (arith, H.few, at_most_one (is_lower y));
@@ -258,7 +248,6 @@ module _ {n N : ℕ} {t : List ℕ} {v y : ℕ} {seen : Seen} (H : Head n N t v 
 
   pub head_turn : {b : Bool} {x : ℕ} {after : Seen} → b ≡ broken_at n N t v y seen.met → b ≡ false → x ≡ cell n N t v y
       → after ≡ visited_as seen x y → Head n N t v (y + 1) after
-  unfolding visited_as
   head_turn {b} {x} {after} q e f g =
       rw (add-one y)
       (by_cases (ℕ_discrete (cell n N t v y) absent)
@@ -267,7 +256,7 @@ module _ {n N : ℕ} {t : List ℕ} {v y : ℕ} {seen : Seen} (H : Head n N t v 
 
   -- the count does not wrap
   pub head_few : seen.edges < length t
-  head_few = omega (arith, H.few, place_in I)
+  head_few = omega (arith, H.few, place_in L hv hy)
 
 module _ {n N : ℕ} {t : List ℕ} {seen : Seen} where
   -- after the last cell of a row comes the first of the next

@@ -1,3 +1,4 @@
+pub mod Lent
 pub mod Walks
 pub mod Checks
 pub mod Cells
