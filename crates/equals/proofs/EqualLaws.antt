@@ -1,14 +1,14 @@
 -- The stages of `equal` on plain values: what is refused, in order, and the answer where nothing is.
 --   fine : what holds of two tables where nothing is refused
 -- Assumes nothing.
-use mathlib.Core.Path.{◌≡◌, refl, sym, ◌∙◌, ap, subst}
+use mathlib.Core.Path.{◌≡◌, refl, ◌∙◌, ap}
 use mathlib.Core.Bool.{Bool, true, false, not, ◌&&◌}
 use mathlib.Core.Option.{Option, none}
 use mathlib.Core.List.{List}
 use Prim.Native.Nat.{ℕ, ◌*◌, ◌≤◌}
 use native.Mathlib.Omega.{arith}
 use lib.Dec.{eqb}
-use lib.ListN.{length, take}
+use lib.ListN.{length}
 use borrow.Author.Tests.{eq-eqb, ne_eqb, eqb-true, not-false}
 use Rattle.std.specs.Prelude.{⊤}
 use Rattle.std.specs.declared.result.Result.{Result}
@@ -24,12 +24,10 @@ use Rattle.theory.proofs.TableRefusalLaws.{else_none, unrefused, no_cell, lent_i
 use Rattle.refusals.specs.Given.{refusal_at, unless}
 use Rattle.refusals.specs.declared.Cause.TheVariants.{Alphabet}
 use Rattle.refusals.specs.declared.Refusal.{Refusal}
-use Rattle.refusals.proofs.UnlessLaws.{ok_unless, err_unless}
-use Rattle.refusals.proofs.StageLaws.{err_any, err_first, ok_next}
-use Rattle.tables.specs.Walks.{walk_of, walked_as}
-use Rattle.tables.specs.declared.Walked.{Walked}
-use Rattle.tables.proofs.WalkLaws.{walk_ok}
-use Rattle.equals.specs.Equals.{same_cells, is_same, equal_as}
+use Rattle.refusals.proofs.UnlessLaws.{unless_ok, ok_unless}
+use Rattle.refusals.proofs.StageLaws.{err_any, err_first, ok_next, held}
+use Rattle.tables.specs.Lent.{lent_refusal}
+use Rattle.equals.specs.Equals.{is_same, equal_as}
 
 -- two tests under one number refuse like one after the other
 one_by_one : (a b : Bool) (k p : ℕ) (o : Option FirstCause)
@@ -82,112 +80,62 @@ fine n N t m M s e =
 
 module _ (n N : ℕ) (t : List ℕ) (m M : ℕ) (s : List ℕ) where
   module _ (clear : equal_refusal n N t m M s ≡ none) where
-    -- both tables have the cells that are compared
-    pub cells_there : N ≡ M → (N * (2 * n) ≤ length t) × (N * (2 * n) ≤ length s)
-    cells_there e =
-        let f = fine n N t m M s clear in
-        (f.lent.2, subst (λ k. k ≤ length s) (ap (λ k. k * (2 * m)) (sym e) ∙ ap (λ k. N * (2 * k)) f.same) f.other.2)
-
     -- the answer, by its two tests
     pub answered : Ok (is_same n N t M s) ≡ equal_as n N t m M s
     unfolding equal_as
     answered = ok_unless (equal_refusal n N t m M s) (is_same n N t M s) clear
 
-    pub points_differ : (N ≡ M → ⊥) → Ok false ≡ equal_as n N t m M s
-    unfolding is_same
-    points_differ e = ap Ok (sym different) ∙ answered
-      where
-        different : is_same n N t M s ≡ false
-        different = rw (ne_eqb N M e)
-
-    pub cells_decide : {count : ℕ} {b : Bool} → N ≡ M → count ≡ N * (2 * n) → b ≡ same_cells (take count t) (take count s) → Ok b ≡ equal_as n N t m M s
-    unfolding is_same
-    cells_decide {count} {b} e k f = ap Ok (f ∙ ap (λ j. same_cells (take j t) (take j s)) k ∙ sym decided) ∙ answered
-      where
-        decided : is_same n N t M s ≡ same_cells (take (N * (2 * n)) t) (take (N * (2 * n)) s)
-        decided = rw (eq-eqb N M e)
-
   -- ── Refusals: the two alphabets, the two sizes, the cells of both ──
-
-  abbrev by_alphabet : Option FirstCause
-  by_alphabet = refused_if (not (is_alphabet n)) 1 0
-
-  abbrev by_other : Option FirstCause
-  by_other = refused_if (not (eqb m n)) 1 0
-
-  abbrev by_size : Option FirstCause
-  by_size = refused_if (not (is_lent n N (length t))) 6 0
-
-  abbrev by_other_size : Option FirstCause
-  by_other_size = refused_if (not (is_lent m M (length s))) 6 0
 
   abbrev by_cells : Option FirstCause
   by_cells = or_else (cell_refusal n N t) (cell_refusal m M s)
 
-  -- the causes in a row
-  in_row : equal_refusal n N t m M s ≡ or_else by_alphabet (or_else by_other (or_else by_size (or_else by_other_size by_cells)))
-  unfolding equal_refusal
-  in_row =
-      one_by_one (is_alphabet n) (eqb m n) 1 0 (or_else (refused_if (not (is_lent n N (length t) && is_lent m M (length s))) 6 0) by_cells)
-      ∙ ap (λ o. or_else by_alphabet (or_else by_other o)) (one_by_one (is_lent n N (length t)) (is_lent m M (length s)) 6 0 by_cells)
+  abbrev answer : Bool
+  answer = is_same n N t M s
 
-  -- what `check_tables` answers
-  abbrev checked : Result ⊤ Refusal
-  checked = unless (equal_refusal n N t m M s) (tt {0})
+  pub alphabet_refused : {r : Refusal} → Err r ≡ unless (refused_if (not (is_alphabet n)) 1 0) (tt {0}) → Err r ≡ equal_as n N t m M s
+  unfolding equal_as equal_refusal
+  alphabet_refused e =
+      rw one_by_one (err_first (refused_if (not (is_alphabet n)) 1 0) (tt {0}) answer (or_else (refused_if (not (eqb m n)) 1 0) (or_else (refused_if (not (is_lent n N (length t) && is_lent m M (length s))) 6 0) by_cells)) e)
 
-  rowed : {x : Result ⊤ Refusal} → x ≡ unless (or_else by_alphabet (or_else by_other (or_else by_size (or_else by_other_size by_cells)))) (tt {0}) → x ≡ checked
-  rowed e = e ∙ sym (ap (λ o. unless o (tt {0})) in_row)
+  module _ {a : ⊤} (good : Ok a ≡ unless (refused_if (not (is_alphabet n)) 1 0) (tt {0})) where
+    lettered : is_alphabet n ≡ true
+    lettered = held (is_alphabet n) 1 0 good
 
-  pub alphabet_refused : {r : Refusal} → Err r ≡ unless by_alphabet (tt {0}) → Err r ≡ checked
-  alphabet_refused e = rowed (err_first by_alphabet (tt {0}) (tt {0}) (or_else by_other (or_else by_size (or_else by_other_size by_cells))) e)
-
-  -- n is an alphabet: the other's n decides, then sizes and cells
-  module _ {a : ⊤} (good : Ok a ≡ unless by_alphabet (tt {0})) where
-    then_other : {x : Result ⊤ Refusal} → x ≡ unless (or_else by_other (or_else by_size (or_else by_other_size by_cells))) (tt {0}) → x ≡ checked
-    then_other e = rowed (ok_next by_alphabet (tt {0}) (tt {0}) (or_else by_other (or_else by_size (or_else by_other_size by_cells))) good e)
-
-    pub other_refused : (m ≡ n → ⊥) → Err (refusal_at Alphabet 0) ≡ checked
-    other_refused e =
-        then_other (err_unless (or_else by_other (or_else by_size (or_else by_other_size by_cells))) (tt {0}) {c = record { number = 1; place = 0 }} (rw (ne_eqb m n e)))
+    pub other_refused : (m ≡ n → ⊥) → Err (refusal_at Alphabet 0) ≡ equal_as n N t m M s
+    unfolding equal_as equal_refusal
+    other_refused e = rw (lettered, ne_eqb m n e)
 
     -- both have one alphabet: sizes and cells decide
     module _ (one : m ≡ n) where
-      then_sizes : {x : Result ⊤ Refusal} → x ≡ unless (or_else by_size (or_else by_other_size by_cells)) (tt {0}) → x ≡ checked
-      then_sizes e =
-          then_other (ok_next by_other (tt {0}) (tt {0}) (or_else by_size (or_else by_other_size by_cells)) (ok_unless by_other (tt {0}) (rw (eq-eqb m n one))) e)
+      by_stages : equal_as n N t m M s ≡ unless (or_else (lent_refusal n N t) (or_else (lent_refusal m M s) by_cells)) answer
+      unfolding equal_as equal_refusal
+      by_stages = rw (lettered, eq-eqb m n one, ap is_alphabet one ∙ lettered, one_by_one)
 
-      pub size_refused : {r : Refusal} → Err r ≡ unless by_size (tt {0}) → Err r ≡ checked
-      size_refused e = then_sizes (err_first by_size (tt {0}) (tt {0}) (or_else by_other_size by_cells) e)
+      pub first_refused : {r : Refusal} → Err r ≡ unless (lent_refusal n N t) (tt {0}) → Err r ≡ equal_as n N t m M s
+      first_refused e = rw by_stages (err_first (lent_refusal n N t) (tt {0}) answer (or_else (lent_refusal m M s) by_cells) e)
 
-      module _ {b : ⊤} (lent : Ok b ≡ unless by_size (tt {0})) where
-        then_other_size : {x : Result ⊤ Refusal} → x ≡ unless (or_else by_other_size by_cells) (tt {0}) → x ≡ checked
-        then_other_size e = then_sizes (ok_next by_size (tt {0}) (tt {0}) (or_else by_other_size by_cells) lent e)
+      module _ {b : ⊤} (lent : Ok b ≡ unless (lent_refusal n N t) (tt {0})) where
+        then_second : {x : Result Bool Refusal} → x ≡ unless (or_else (lent_refusal m M s) by_cells) answer → x ≡ equal_as n N t m M s
+        then_second e = rw by_stages (ok_next (lent_refusal n N t) (tt {0}) answer (or_else (lent_refusal m M s) by_cells) lent e)
 
-        pub other_size_refused : {r : Refusal} → Err r ≡ unless by_other_size (tt {0}) → Err r ≡ checked
-        other_size_refused e = then_other_size (err_first by_other_size (tt {0}) (tt {0}) by_cells e)
+        pub second_refused : {r : Refusal} → Err r ≡ unless (lent_refusal m M s) (tt {0}) → Err r ≡ equal_as n N t m M s
+        second_refused e = then_second (err_first (lent_refusal m M s) (tt {0}) answer by_cells e)
 
         -- both are lent: the cells decide
-        module _ {d : ⊤} (other_lent : Ok d ≡ unless by_other_size (tt {0})) where
-          then_cells : {x : Result ⊤ Refusal} → x ≡ unless by_cells (tt {0}) → x ≡ checked
-          then_cells e = then_other_size (ok_next by_other_size (tt {0}) (tt {0}) by_cells other_lent e)
+        module _ {d : ⊤} (other : Ok d ≡ unless (lent_refusal m M s) (tt {0})) where
+          then_cells : {x : Result Bool Refusal} → x ≡ unless by_cells answer → x ≡ equal_as n N t m M s
+          then_cells e = then_second (ok_next (lent_refusal m M s) (tt {0}) answer by_cells other e)
 
-          pub cell_refused : {r : Refusal} → Err r ≡ walked_as n N t → Err r ≡ checked
-          unfolding walked_as
-          cell_refused e = then_cells (err_first (cell_refusal n N t) (walk_of n N t) (tt {0}) (cell_refusal m M s) e)
+          pub cell_refused : {r : Refusal} → Err r ≡ unless (cell_refusal n N t) (tt {0}) → Err r ≡ equal_as n N t m M s
+          cell_refused e = then_cells (err_first (cell_refusal n N t) (tt {0}) answer (cell_refusal m M s) e)
 
-          module _ {seen : Walked} (sound : Ok seen ≡ walked_as n N t) where
-            then_other_cells : {x : Result ⊤ Refusal} → x ≡ unless (cell_refusal m M s) (tt {0}) → x ≡ checked
-            unfolding walked_as
-            then_other_cells e = then_cells (ok_next (cell_refusal n N t) (walk_of n N t) (tt {0}) (cell_refusal m M s) sound e)
+          module _ {f : ⊤} (sound : Ok f ≡ unless (cell_refusal n N t) (tt {0})) where
+            then_other : {x : Result Bool Refusal} → x ≡ unless (cell_refusal m M s) answer → x ≡ equal_as n N t m M s
+            then_other e = then_cells (ok_next (cell_refusal n N t) (tt {0}) answer (cell_refusal m M s) sound e)
 
-            pub other_cell_refused : {r : Refusal} → Err r ≡ walked_as m M s → Err r ≡ checked
-            unfolding walked_as
-            other_cell_refused e = then_other_cells (err_any (cell_refusal m M s) (walk_of m M s) (tt {0}) e)
+            pub other_cell_refused : {r : Refusal} → Err r ≡ unless (cell_refusal m M s) (tt {0}) → Err r ≡ equal_as n N t m M s
+            other_cell_refused e = then_other (err_any (cell_refusal m M s) (tt {0}) answer e)
 
-            pub none_refused : {v : Walked} → Ok v ≡ walked_as m M s → Ok (tt {0}) ≡ checked
-            none_refused e = then_other_cells (ok_unless (cell_refusal m M s) (tt {0}) (walk_ok m M s e).0)
-
-  -- the first cause is the answer
-  pub equal_refused : {r : Refusal} → Err r ≡ checked → Err r ≡ equal_as n N t m M s
-  unfolding equal_as
-  equal_refused e = err_any (equal_refusal n N t m M s) (tt {0}) (is_same n N t M s) e
+            pub none_refused : {g : ⊤} → Ok g ≡ unless (cell_refusal m M s) (tt {0}) → Ok answer ≡ equal_as n N t m M s
+            none_refused e = then_other (ok_unless (cell_refusal m M s) answer (unless_ok (cell_refusal m M s) (tt {0}) e).0)

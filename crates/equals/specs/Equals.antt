@@ -16,7 +16,7 @@ same_cells (x ∷ t) [] = false
 same_cells (x ∷ t) (y ∷ s) = eqb x y && same_cells t s
 
 -- V and the cells of the V rows are the same
-unfoldable pub is_same : ℕ → ℕ → List ℕ → ℕ → List ℕ → Bool
+abbrev pub is_same : ℕ → ℕ → List ℕ → ℕ → List ℕ → Bool
 is_same n N t M s = eqb N M && same_cells (take (N * (2 * n)) t) (take (N * (2 * n)) s)
 
 unfoldable pub equal_as : ℕ → ℕ → List ℕ → ℕ → ℕ → List ℕ → Result Bool Refusal

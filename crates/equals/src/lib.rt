@@ -2,14 +2,10 @@
 #![tactic(auto)]
 
 ghost use Rattle.std.specs.Prelude.{◌≡◌, ◌≤◌, length, take};
-ghost use Rattle.std.specs.declared.result.Result.TheVariants.{Ok};
-ghost use Rattle.std.proofs.Math.Option.{none};
-ghost use Rattle.theory.specs.TableRefusals.{equal_refusal};
-ghost use Rattle.refusals.specs.Given.{unless};
-ghost use Rattle.equals.specs.Equals.{EqualOutcome, same_cells};
+ghost use Rattle.equals.specs.Equals.{EqualOutcome, is_same, same_cells};
 
 use refusals::{Cause, Refusal, refuse};
-use tables::Subgroup;
+use tables::{Lent, Sound, Table};
 
 // The first `count` cells of two tables are the same.
 fn same_cells(first: &[u32], second: &[u32], count: usize) -> bool
@@ -19,36 +15,26 @@ fn same_cells(first: &[u32], second: &[u32], count: usize) -> bool
     first[..count] == second[..count]
 }
 
-// Whether two tables are equal, where nothing is refused: V and the cells are compared.
-fn compare(a: Subgroup, first: &[u32], b: Subgroup, second: &[u32]) -> bool
-    requires { equal_refusal a.n a.points first.now b.n b.points second.now ≡ none }
-    ensures outcome { EqualOutcome a.n a.points first.now b.n b.points second.now (Ok result) }
+// Whether two tables over one alphabet are the same: V, then the cells.
+fn compare(a: &Sound, b: &Sound) -> bool
+    requires alphabet { b.now.n ≡ a.now.n }
+    ensures same { result ≡ is_same a.now.n a.now.points a.now.cells.now b.now.points b.now.cells.now }
 {
     if a.points != b.points {
         return false;
     }
-    same_cells(first, second, tables::cell_count(a))
+    same_cells(a.cells, b.cells, Lent::from(*a).cell_count())
 }
 
-// Refuses two tables handed in by the first cause that applies: 1, 6 of the first, 6 of the second, 8, 8.
-fn check_tables(a: Subgroup, first: &[u32], b: Subgroup, second: &[u32]) -> Result<(), Refusal>
-    ensures checked { result ≡ unless (equal_refusal a.n a.points first.now b.n b.points second.now) tt }
+// Says whether two tables handed in are equal: same V, same cells; or refuses: 1, 6 of the first, 6 of the second, 8, 8.
+pub fn equal(a: &Table, b: &Table) -> Result<bool, Refusal>
+    ensures outcome { EqualOutcome a.now.n a.now.points a.now.cells.now b.now.n b.now.points b.now.cells.now result }
 {
     refusals::check_alphabet(a.n)?;
     if b.n != a.n {
         return Err(refuse(Cause::Alphabet, 0));
     }
-    tables::check_lent(a, first.len())?;
-    tables::check_lent(b, second.len())?;
-    tables::walk(a, first)?;
-    tables::walk(b, second)?;
-    Ok(())
-}
-
-// Says whether two tables handed in are equal: same V, same cells; or refuses: 1, 6 of the first, 6 of the second, 8, 8.
-pub fn equal(a: Subgroup, first: &[u32], b: Subgroup, second: &[u32]) -> Result<bool, Refusal>
-    ensures outcome { EqualOutcome a.n a.points first.now b.n b.points second.now result }
-{
-    check_tables(a, first, b, second)?;
-    Ok(compare(a, first, b, second))
+    let first = a.lend()?;
+    let second = b.lend()?;
+    Ok(compare(&first.checked()?, &second.checked()?))
 }

@@ -21,19 +21,11 @@ use Rattle.theory.specs.Basis.{first_met}
 use Rattle.theory.proofs.TableLaws.{length_usual, get_or_usual, cell_bounded}
 use Rattle.theory.proofs.PlaceLaws.{ComesBefore}
 use Rattle.theory.proofs.RowLaws.{earlier_row, earlier_start, greatest_met-append}
-use Rattle.theory.proofs.PathLaws.{Setting, usual_setting, spot, met}
-use Rattle.tables.proofs.CellTurn.{Sizes, sizes}
+use Rattle.theory.proofs.PathLaws.{spot, met}
+use Rattle.tables.proofs.LentLaws.{IsSound, sound_setting}
 use Rattle.tables.proofs.ScanLaws.{before_more, met_before as seen-before, first_here as met-here}
-use Rattle.paths.specs.Paths.{Ready}
 use Rattle.paths.specs.Notes.{is_new}
 use Rattle.paths.proofs.NoteLaws.{new_beyond, new_not}
-
-module _ {n N : ℕ} {t : List ℕ} {room : ℕ} (R : Ready n N t room) where
-  pub ready_sizes : Sizes n N (length t)
-  ready_sizes = sizes R.alphabet R.lent
-
-  pub ready_setting : Setting (cell n N t) N (usual n)
-  ready_setting = usual_setting n N t R.canonical (omega (arith, ready_sizes.based))
 
 pub record Met (n N : ℕ) (t : List ℕ) (v y g : ℕ) : Type 0 where
   pub point : v ≤ N
@@ -41,7 +33,7 @@ pub record Met (n N : ℕ) (t : List ℕ) (v y g : ℕ) : Type 0 where
   pub greatest : g ≡ greatest_met (earlier (cell n N t) (usual n) v y)
   pub below : g < N
 
-module _ {n N : ℕ} {t : List ℕ} {room : ℕ} (R : Ready n N t room) where
+module _ {n N : ℕ} {t : List ℕ} (R : IsSound n N t) where
   abbrev c : Cells
   c = cell n N t
 
@@ -53,7 +45,7 @@ module _ {n N : ℕ} {t : List ℕ} {room : ℕ} (R : Ready n N t room) where
         point = omega arith;
         letter = omega arith;
         greatest = sym (ap greatest_met (earlier_start c (usual n)));
-        below = omega (arith, (ready_sizes R).based);
+        below = omega (arith, R.lent.based);
       }
 
   module _ {v y g : ℕ} (H : Met n N t v y g) where
@@ -65,7 +57,7 @@ module _ {n N : ℕ} {t : List ℕ} {room : ℕ} (R : Ready n N t room) where
     pub row_met : (x : ℕ) → x ≤ v → x < N → x ≤ g
     row_met x h hx =
         by_cases (ℕ_discrete x 0) (λ z. omega arith)
-        (λ z. let m = met (ready_setting R) x z hx in
+        (λ z. let m = met (sound_setting R) x z hx in
         let b = cell_bounded n N t m.0.point m.0.letter (λ e. m.3.1 (sym m.3.0 ∙ e)) in
         let i : m.0.letter < 2 * n = omega (arith, length_usual n, get_or_usual n b.1.0 (omega (arith, length_usual n, b.1.1)), b.1.1, b.1.2) in
         omega (arith, m.3.0, met_before m.0.point m.0.letter (inl (omega (arith, m.2))) i (λ e. m.3.1 (sym m.3.0 ∙ e))))

@@ -1,11 +1,10 @@
 -- The steps of `note_paths` on plain values.
 --   length_noted, noted_point, noted_letter, noted_depth, noted_else, noted_rest : what noting leaves
 --   new_none, new_some, new_beyond, new_not : the test for a new point
---   old_met, old_noted, new_met, new_noted : what a cell that is passed leaves
 -- Assumes nothing.
-use mathlib.Core.Path.{◌≡◌, refl, sym, ◌∙◌, ap}
+use mathlib.Core.Path.{◌≡◌, refl, sym, ◌∙◌}
 use mathlib.Core.Logic.{by_cases}
-use mathlib.Core.Bool.{Bool, true, false, not}
+use mathlib.Core.Bool.{true, false, not}
 use mathlib.Core.List.{List}
 use Prim.Native.Nat.{ℕ, ◌+◌, ◌*◌, ◌≤◌, ◌<◌}
 use native.Mathlib.Decide.{dec_lt}
@@ -14,32 +13,28 @@ use lib.Dec.{eqb, ltb}
 use lib.ListN.{length, get_or, set, drop, length-set}
 use lib.Seq.{get_or-set_same, get_or-set_other, drop-set-lt}
 use borrow.Author.Tests.{eq-eqb, ne_eqb, lt-ltb, eqb-false, ltb-true, not-true}
-use Rattle.theory.specs.Tables.{absent, Cells}
+use Rattle.theory.specs.Tables.{absent}
 use Rattle.theory.proofs.RefusalLaws.{and_true}
 use Rattle.theory.proofs.PlaceLaws.{passes_fails}
-use Rattle.paths.specs.Notes.{noted, is_new, met_after, noted_after}
+use Rattle.paths.specs.Notes.{noted, is_new}
 
 module _ (N : ℕ) (work : List ℕ) (x v y d : ℕ) where
   pub length_noted : length (noted N work x v y d) ≡ length work
-  unfolding noted
   length_noted = simp length-set refl
 
   module _ (h : x < N) (r : 3 * N ≤ length work) where
     pub noted_point : get_or (noted N work x v y d) x 0 ≡ v
-    unfolding noted
     noted_point =
         get_or-set_other (set (set work x v) (N + x) y) (2 * N + x) x d 0 (λ e. omega arith)
         ∙ get_or-set_other (set work x v) (N + x) x y 0 (λ e. omega arith)
         ∙ get_or-set_same work x v 0 (omega arith)
 
     pub noted_letter : get_or (noted N work x v y d) (N + x) 0 ≡ y
-    unfolding noted
     noted_letter =
         get_or-set_other (set (set work x v) (N + x) y) (2 * N + x) (N + x) d 0 (λ e. omega arith)
         ∙ get_or-set_same (set work x v) (N + x) y 0 (omega (arith, length-set work x v))
 
     pub noted_depth : get_or (noted N work x v y d) (2 * N + x) 0 ≡ d
-    unfolding noted
     noted_depth =
         get_or-set_same (set (set work x v) (N + x) y) (2 * N + x) d 0
         (omega (arith, length-set work x v, length-set (set work x v) (N + x) y))
@@ -47,7 +42,6 @@ module _ (N : ℕ) (work : List ℕ) (x v y d : ℕ) where
     -- other cells are as they were
     pub noted_else : (i : ℕ) → (i ≡ x → ⊥) → (i ≡ N + x → ⊥) → (i ≡ 2 * N + x → ⊥)
         → get_or (noted N work x v y d) i 0 ≡ get_or work i 0
-    unfolding noted
     noted_else i e f g =
         get_or-set_other (set (set work x v) (N + x) y) (2 * N + x) i d 0 g
         ∙ get_or-set_other (set work x v) (N + x) i y 0 f
@@ -55,7 +49,6 @@ module _ (N : ℕ) (work : List ℕ) (x v y d : ℕ) where
 
     -- so are those behind the three sections
     pub noted_rest : drop (3 * N) (noted N work x v y d) ≡ drop (3 * N) work
-    unfolding noted
     noted_rest =
         drop-set-lt (3 * N) (set (set work x v) (N + x) y) (2 * N + x) d (omega arith)
         ∙ drop-set-lt (3 * N) (set work x v) (N + x) y (omega arith)
@@ -63,41 +56,16 @@ module _ (N : ℕ) (work : List ℕ) (x v y d : ℕ) where
 
 module _ (g x : ℕ) where
   pub new_none : x ≡ absent → false ≡ is_new g x
-  unfolding is_new
   new_none e = sym (rw (eq-eqb x absent e))
 
   pub new_some : (x ≡ absent → ⊥) → ltb g x ≡ is_new g x
-  unfolding is_new
   new_some e = sym (rw (ne_eqb x absent e))
 
   pub new_beyond : is_new g x ≡ true → (x ≡ absent → ⊥) × (g < x)
-  unfolding is_new
   new_beyond e =
       let a = and_true (not (eqb x absent)) (ltb g x) e in
       (eqb-false x absent (not-true (eqb x absent) a.0), ltb-true g x a.1)
 
   -- what is not new is absent or was met
   pub new_not : is_new g x ≡ false → (x ≡ absent → ⊥) → x ≤ g
-  unfolding is_new
   new_not e m = by_cases (dec_lt g x) (λ h. passes_fails (rw (ne_eqb x absent m, lt-ltb g x h)) e) (λ h. omega arith)
-
-module _ (c : Cells) (N : ℕ) (work : List ℕ) (v y g : ℕ) {x : ℕ} {b : Bool} (q : x ≡ c v y) (t : b ≡ is_new g x) where
-  tested : is_new g (c v y) ≡ b
-  tested = sym (t ∙ ap (is_new g) q)
-
-  pub old_met : b ≡ false → g ≡ met_after c v y g
-  unfolding met_after
-  old_met e = sym (rw (tested ∙ e))
-
-  pub old_noted : b ≡ false → work ≡ noted_after c N work v y g
-  unfolding noted_after
-  old_noted e = sym (rw (tested ∙ e))
-
-  pub new_met : b ≡ true → x ≡ met_after c v y g
-  unfolding met_after
-  new_met e = q ∙ sym (rw (tested ∙ e))
-
-  pub new_noted : b ≡ true → noted N work x v y (get_or work (2 * N + v) 0 + 1) ≡ noted_after c N work v y g
-  unfolding noted_after
-  new_noted e =
-      ap (λ z. noted N work z v y (get_or work (2 * N + v) 0 + 1)) q ∙ sym (rw (tested ∙ e))

@@ -18,9 +18,10 @@ use Rattle.theory.specs.Tables.{absent, Cells, cell}
 use Rattle.theory.specs.Basis.{first_met, path_of}
 use Rattle.theory.proofs.WordLaws.{by_test}
 use Rattle.theory.proofs.PathLaws.{spot, Step, path_base, path_step, path_length}
-use Rattle.paths.specs.Paths.{Ready, PathsOutcome}
-use Rattle.paths.specs.Notes.{noted, is_new, Noting, met_after, noted_after}
-use Rattle.paths.proofs.MetLaws.{ready_sizes, ready_setting, Met, met_first, row_met, met_old, first_here, next_here, met_new, met_row}
+use Rattle.tables.proofs.LentLaws.{IsSound, sound_setting}
+use Rattle.paths.specs.Paths.{PathsOutcome}
+use Rattle.paths.specs.Notes.{noted, is_new, met_after, noted_after}
+use Rattle.paths.proofs.MetLaws.{Met, met_first, row_met, met_old, first_here, next_here, met_new, met_row}
 use Rattle.paths.proofs.NoteLaws.{length_noted, noted_point, noted_letter, noted_depth, noted_else, noted_rest, new_beyond}
 
 -- what is noted of one point
@@ -45,33 +46,28 @@ pub record Head (n N : ℕ) (t : List ℕ) (v y g : ℕ) (work : List ℕ) : Typ
   pub points : (x : ℕ) → x ≤ g → NotedAt n N t work x
   pub room_for : 3 * N ≤ length work
 
-module _ {n N : ℕ} {t : List ℕ} {room : ℕ} (R : Ready n N t room) where
+module _ {n N : ℕ} {t : List ℕ} (R : IsSound n N t) where
   abbrev c : Cells
   c = cell n N t
 
   pub head_first : (old : List ℕ) {work : List ℕ} → 3 * N ≤ length old → work ≡ noted N old 0 0 0 0 → Head n N t 0 0 0 work
   head_first old {work} r e =
-      let b : 0 < N = omega (arith, (ready_sizes R).based) in
+      let b : 0 < N = omega (arith, R.lent.based) in
       subst (Head n N t 0 0 0) (sym e)
       (record {
         passed = met_first R;
         base = (noted_point N old 0 0 0 0 b r, subst (λ i. get_or (noted N old 0 0 0 0) i 0 ≡ 0) (omega arith) (noted_letter N old 0 0 0 0 b r));
         points = λ x h. subst (NotedAt n N t (noted N old 0 0 0 0)) (omega arith) (record {
           first = λ z. absurd (z refl);
-          long = noted_depth N old 0 0 0 0 b r ∙ sym (ap length (path_base (ready_setting R)));
+          long = noted_depth N old 0 0 0 0 b r ∙ sym (ap length (path_base (sound_setting R)));
         });
         room_for = omega (arith, length_noted N old 0 0 0 0);
       })
 
   module _ {v y g : ℕ} {work : List ℕ} (H : Head n N t v y g work) where
-    pub head_noting : v < N → y < 2 * n → Noting n N t work v y
-    head_noting hv hy =
-        record {
-          inside = record { alphabet = R.alphabet; lent = R.lent; point = hv; letter = hy };
-          room_for = H.room_for;
-          within = λ m. R.canonical.within v y (c v y) (refl, m);
-          shallow = omega (arith, (H.points v (row_met R H.passed v (omega arith) hv)).long, path_length (ready_setting R) v hv);
-        }
+    -- the row's own point has its depth, which is below the number of points
+    pub head_shallow : v < N → get_or work (2 * N + v) 0 < N
+    head_shallow hv = omega (arith, (H.points v (row_met R H.passed v (omega arith) hv)).long, path_length (sound_setting R) v hv)
 
     module _ (hv : v < N) (hy : y < 2 * n) where
       -- a cell that leads to no new point changes nothing
@@ -122,7 +118,7 @@ module _ {n N : ℕ} {t : List ℕ} {room : ℕ} (R : Ready n N t room) where
                 first = λ z. first_here R H.passed hv hy e ∙ ap some (λ i. spot (sym (noted_point N work (c v y) v y d hx r) i) (sym (noted_letter N work (c v y) v y d hx r) i));
                 long = noted_depth N work (c v y) v y d hx r
                     ∙ ap (λ k. k + 1) (H.points v (row_met R H.passed v (omega arith) hv)).long
-                    ∙ sym (ap length (path_step (ready_setting R) (spot v y) (c v y) step hx) ∙ length-append (path_of c N (usual n) v) (y ∷ []));
+                    ∙ sym (ap length (path_step (sound_setting R) (spot v y) (c v y) step hx) ∙ length-append (path_of c N (usual n) v) (y ∷ []));
               }
 
           kept : (x : ℕ) → x ≤ g → NotedAt n N t after x
@@ -135,7 +131,6 @@ module _ {n N : ℕ} {t : List ℕ} {room : ℕ} (R : Ready n N t room) where
               }
 
       pub head_turn : {m : ℕ} {after : List ℕ} → m ≡ met_after c v y g → after ≡ noted_after c N work v y g → Head n N t v (y + 1) m after
-      unfolding met_after noted_after
       head_turn {m} {after} p q =
           rw (add-one y)
           (by_test (is_new g (c v y)) (λ e. at (p ∙ rw e) (q ∙ rw e) (turn_new e)) (λ e. at (p ∙ rw e) (q ∙ rw e) (turn_old e)))
@@ -145,7 +140,6 @@ module _ {n N : ℕ} {t : List ℕ} {room : ℕ} (R : Ready n N t room) where
 
     -- passing a cell keeps what stands behind the three sections
     pub kept_turn : {old after : List ℕ} → Kept N old work → after ≡ noted_after c N work v y g → Kept N old after
-    unfolding noted_after
     kept_turn {old} {after} k q =
         by_test (is_new g (c v y))
         (λ e. let hx = R.canonical.within v y (c v y) (refl, (new_beyond g (c v y) e).0) in
@@ -172,7 +166,7 @@ module _ {n N : ℕ} {t : List ℕ} {room : ℕ} (R : Ready n N t room) where
   kept_first old r e =
       record {
         size = ap length e ∙ length_noted N old 0 0 0 0;
-        rest = ap (drop (3 * N)) e ∙ noted_rest N old 0 0 0 0 (omega (arith, (ready_sizes R).based)) r;
+        rest = ap (drop (3 * N)) e ∙ noted_rest N old 0 0 0 0 (omega (arith, R.lent.based)) r;
       }
 
   pub head_done : {v g : ℕ} {old work : List ℕ} → Kept N old work → Head n N t v 0 g work → N ≤ v → PathsOutcome n N t old work

@@ -1,29 +1,21 @@
 -- What the steps of `note_paths` leave, cited by their contracts.
 --   noted N work x v y d    == the three cells of x hold v, y and d
 --   is_new g x               == the cell x leads to a point beyond g
---   Noting n N t work v y  <-> the cell of letter y at v can be passed: it leads to a point or nowhere, and v has its depth
 --   met_after c v y g        == the greatest point met, once the cell of letter y at v is passed
 --   noted_after c N work v y g == the work cells then
 -- Assumes nothing.
-use Rattle.std.specs.Prelude.{◌≡◌, Bool, cond, not, ◌&&◌, List, ℕ, ◌+◌, ◌*◌, ◌≤◌, ◌<◌, eqb, ltb, length, get_or, set}
-use Rattle.theory.specs.Tables.{absent, Cells, cell}
-use Rattle.tables.specs.Cells.{Inside}
+use Rattle.std.specs.Prelude.{Bool, cond, not, ◌&&◌, List, ℕ, ◌+◌, ◌*◌, eqb, ltb, get_or, set}
+use Rattle.theory.specs.Tables.{absent, Cells}
 
-unfoldable pub noted : ℕ → List ℕ → ℕ → ℕ → ℕ → ℕ → List ℕ
+abbrev pub noted : ℕ → List ℕ → ℕ → ℕ → ℕ → ℕ → List ℕ
 noted N work x v y d = set (set (set work x v) (N + x) y) (2 * N + x) d
 
-unfoldable pub is_new : ℕ → ℕ → Bool
+abbrev pub is_new : ℕ → ℕ → Bool
 is_new g x = not (eqb x absent) && ltb g x
 
-pub record Noting (n N : ℕ) (t work : List ℕ) (v y : ℕ) : Type 0 where
-  pub inside : Inside n N t v y
-  pub room_for : 3 * N ≤ length work
-  pub within : (cell n N t v y ≡ absent → ⊥) → cell n N t v y < N
-  pub shallow : get_or work (2 * N + v) 0 < N
-
-unfoldable pub met_after : Cells → ℕ → ℕ → ℕ → ℕ
+abbrev pub met_after : Cells → ℕ → ℕ → ℕ → ℕ
 met_after c v y g = cond (is_new g (c v y)) (c v y) g
 
-unfoldable pub noted_after : Cells → ℕ → List ℕ → ℕ → ℕ → ℕ → List ℕ
+abbrev pub noted_after : Cells → ℕ → List ℕ → ℕ → ℕ → ℕ → List ℕ
 noted_after c N work v y g =
     cond (is_new g (c v y)) (noted N work (c v y) v y (get_or work (2 * N + v) 0 + 1)) work

@@ -1,22 +1,12 @@
 -- Paths of points as lent cells hold them (document 01, 'Basis and expression'), cited by `note_paths` and by those that follow them.
---   Ready n N t room      <-> the table is lent, canonical, and there is room for three cells a point
 --   PathCells n N t work  <-> cell x holds the point from whose row x was first met, cell N + x the letter, cell 2N + x its path's length
 --   PathsOutcome          <-> so it is, and the cells from 3N on are as they were
 -- The base was met nowhere: its first two cells hold 0. Assumes nothing.
-use Rattle.std.specs.Prelude.{◌≡◌, true, List, ℕ, ◌+◌, ◌*◌, ◌≤◌, ◌<◌, length, get_or, drop}
+use Rattle.std.specs.Prelude.{◌≡◌, List, ℕ, ◌+◌, ◌*◌, ◌<◌, length, get_or, drop}
 use Rattle.std.proofs.Math.Option.{some}
 use Rattle.theory.specs.Letters.{usual}
-use Rattle.theory.specs.Refusals.{is_alphabet}
-use Rattle.theory.specs.TableRefusals.{is_lent}
 use Rattle.theory.specs.Tables.{cell}
-use Rattle.theory.specs.Canonical.{Canonical}
 use Rattle.theory.specs.Basis.{first_met, path_of}
-
-pub record Ready (n N : ℕ) (t : List ℕ) (room : ℕ) : Type 0 where
-  pub alphabet : is_alphabet n ≡ true
-  pub lent : is_lent n N (length t) ≡ true
-  pub canonical : Canonical N (usual n) (cell n N t)
-  pub room_for : 3 * N ≤ room
 
 pub record PathCells (n N : ℕ) (t work : List ℕ) : Type 0 where
   pub base : (get_or work 0 0 ≡ 0) × (get_or work N 0 ≡ 0)

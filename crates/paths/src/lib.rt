@@ -1,13 +1,13 @@
 // Paths of points: one pass over a canonical table notes for each point from where it is first met, and how far it is from the base.
 #![tactic(auto)]
 
-ghost use Rattle.std.specs.Prelude.{◌≡◌, ◌*◌, ◌≤◌, ◌<◌, length};
+ghost use Rattle.std.specs.Prelude.{◌≡◌, ◌+◌, ◌*◌, ◌≤◌, ◌<◌, length, slice_index};
 ghost use Rattle.theory.specs.Tables.{cell};
-ghost use Rattle.paths.specs.Paths.{Ready, PathsOutcome};
-ghost use Rattle.paths.specs.Notes.{noted, is_new, Noting, met_after, noted_after};
+ghost use Rattle.paths.specs.Paths.{PathsOutcome};
+ghost use Rattle.paths.specs.Notes.{noted, is_new, met_after, noted_after};
 
 use cells::ABSENT;
-use tables::Subgroup;
+use tables::Sound;
 
 // Notes that x is first met at point v by letter y, at the end of a path of `depth` letters.
 fn note(points: usize, work: &mut [u32], x: usize, v: u32, y: u32, depth: u32)
@@ -27,33 +27,35 @@ fn is_new(met: u32, x: u32) -> bool
 }
 
 // The cell of letter y at v is passed: a new point is noted. Answers the greatest point met.
-fn visit(s: Subgroup, table: &[u32], work: &mut [u32], v: usize, y: usize, met: u32) -> u32
-    requires { Noting s.n s.points table.now work.old v y }
-    ensures met { result ≡ met_after (cell s.n s.points table.now) v y met }
-    ensures noted { work.new ≡ noted_after (cell s.n s.points table.now) s.points work.old v y met }
+fn visit(t: &Sound, work: &mut [u32], v: usize, y: usize, met: u32) -> u32
+    requires point { v < t.now.points }
+    requires letter { y < 2 * t.now.n }
+    requires room { 3 * t.now.points ≤ length work.old }
+    requires shallow { slice_index work.old (2 * t.now.points + v) < t.now.points }
+    ensures met { result ≡ met_after (cell t.now.n t.now.points t.now.cells.now) v y met }
+    ensures noted { work.new ≡ noted_after (cell t.now.n t.now.points t.now.cells.now) t.now.points work.old v y met }
 {
-    let x = tables::cell_at(s, table, v, y);
+    let x = t.cell_at(v, y);
     if !is_new(met, x) {
         return met;
     }
-    let points = s.points as usize;
+    let points = t.points as usize;
     let depth = work[2 * points + v] + 1;
     note(points, work, x as usize, v as u32, y as u32, depth);
     x
 }
 
 // Notes the paths of all points of a canonical table: for each the point it is first met from, the letter, and its path's length.
-pub fn note_paths(s: Subgroup, table: &[u32], work: &mut [u32])
-    requires { Ready s.n s.points table.now (length work.old) }
-    ensures paths { PathsOutcome s.n s.points table.now work.old work.new }
+pub fn note_paths(t: &Sound, work: &mut [u32])
+    requires room { 3 * t.now.points ≤ length work.old }
+    ensures paths { PathsOutcome t.now.n t.now.points t.now.cells.now work.old work.new }
 {
-    let w = 2 * (s.n as usize);
-    let points = s.points as usize;
+    let points = t.points as usize;
     note(points, work, 0, 0, 0, 0);
     let mut met: u32 = 0;
     for v in 0..points {
-        for y in 0..w {
-            met = visit(s, table, work, v, y, met);
+        for y in 0..2 * t.n as usize {
+            met = visit(t, work, v, y, met);
         }
     }
 }

@@ -4,7 +4,7 @@ use Rattle.paths.proofs.PathTurn.{Kept, Head}
 use Rattle.paths.proofs.note_paths.Given as goal
 
 abbrev pub invariant-loop-y : goal.invariant-loop-y
-invariant-loop-y l = Head l.s.n l.s.points l.table l.v l.y l.met l.work × Kept l.s.points l.initial.work l.work
+invariant-loop-y l = Head l.t.n l.t.points l.t.cells.now l.v l.y l.met l.work × Kept l.t.points l.initial.work l.work
 
 abbrev pub invariant-loop-v : goal.invariant-loop-v
-invariant-loop-v l = Head l.s.n l.s.points l.table l.v 0 l.met l.work × Kept l.s.points l.initial.work l.work
+invariant-loop-v l = Head l.t.n l.t.points l.t.cells.now l.v 0 l.met l.work × Kept l.t.points l.initial.work l.work
