@@ -1,14 +1,14 @@
 -- The stages of `member` on plain values: what is refused, in order, and the answer where nothing is.
 --   query_word_lem    : the word of a query that passes the scan is the first word of its text, which takes all of it
---   reading_home  : a reading ends at the base exactly if the word leads there
---   fine          : what holds where nothing is refused
+--   reading_home      : a reading ends at the base exactly if the word leads there
+--   fine              : what holds where nothing is refused
 -- Assumes nothing.
 use mathlib.Core.Path.{◌≡◌, refl, sym, ◌∙◌, ap}
 use mathlib.Core.Bool.{Bool, true, false, not, true≢false}
 use mathlib.Core.Logic.{by_cases}
 use mathlib.Core.Option.{Option, none}
 use mathlib.Core.List.{List, [], ◌∷◌, ◌++◌, map, append_assoc}
-use Prim.Native.Nat.{ℕ, suc, ◌-◌, ◌*◌, ◌≤◌, ◌<◌}
+use Prim.Native.Nat.{ℕ, suc, ◌-◌, ◌≤◌, ◌<◌}
 use native.Mathlib.Decide.{ℕ_discrete}
 use native.Mathlib.Omega.{arith}
 use lib.Dec.{ltb}
@@ -20,15 +20,15 @@ use Rattle.std.specs.declared.result.Result.{Result}
 use Rattle.std.specs.declared.result.Result.TheVariants.{Ok, Err}
 use Rattle.theory.specs.Words.{reduced}
 use Rattle.theory.specs.Letters.{letter_bytes, place_in, letter_of, is_letter, line_end, usual, word_length, first_word}
-use Rattle.theory.specs.Refusals.{Refusal as FirstCause, point_limit, is_alphabet, or_else, refused_if, text_refusal}
+use Rattle.theory.specs.Refusals.{Refusal as FirstCause, is_alphabet, or_else, refused_if, text_refusal}
 use Rattle.theory.specs.Tables.{absent, Cells, cell, end_of, reading_from, is_at, is_accepted}
-use Rattle.theory.specs.Canonical.{Canonical, faulty_cell}
+use Rattle.theory.specs.Canonical.{faulty_cell}
 use Rattle.theory.specs.TableRefusals.{is_lent, at_cell, cell_refusal, member_refusal}
-use Rattle.theory.proofs.RefusalLaws.{alphabet_in, refusal_none}
+use Rattle.theory.proofs.RefusalLaws.{refusal_none}
 use Rattle.theory.proofs.TextLaws.{length-first_word}
 use Rattle.theory.proofs.StartLaws.{reduced_shorter}
 use Rattle.theory.proofs.CanonicalLaws.{table_none_canonical}
-use Rattle.theory.proofs.TableRefusalLaws.{else_none, unrefused, no_cell, lent_in, text_alphabet}
+use Rattle.theory.proofs.TableRefusalLaws.{else_none, unrefused, no_cell, text_alphabet}
 use Rattle.cells.specs.Filled.{filled}
 use Rattle.refusals.specs.Given.{unless, unless_short}
 use Rattle.refusals.specs.declared.Cause.TheVariants.{Work}
@@ -38,9 +38,8 @@ use Rattle.refusals.proofs.StageLaws.{err_any, err_first, ok_next}
 use Rattle.words.specs.Reduction.{reduced_cells, ReducedInto}
 use Rattle.words.specs.declared.Reduced.{Reduced}
 use Rattle.words.proofs.ReduceTurn.{cells_kept}
-use Rattle.tables.specs.Walks.{walk_of, walked_as}
-use Rattle.tables.specs.declared.Walked.{Walked}
-use Rattle.tables.proofs.WalkLaws.{walk_ok}
+use Rattle.tables.specs.Lent.{IsLent, lent_refusal}
+use Rattle.tables.proofs.LentLaws.{tested_lent, IsSound}
 use Rattle.members.specs.Readings.{read_as, reading_as}
 use Rattle.members.specs.Members.{query_word, answer_as, cells_for, cells_after, MemberOutcome}
 use Rattle.members.specs.Stages.{is_at_base, table_refusal}
@@ -94,45 +93,36 @@ answer_accepted n N t q = reading_home (cell n N t) 0 0 (reduced q)
 
 -- ── The table, behind the query: its size, the work, the cells ──
 
-module _ (n N : ℕ) (t : List ℕ) (needed room : ℕ) where
-  abbrev by_size : Option FirstCause
-  by_size = refused_if (not (is_lent n N (length t))) 6 0
-
+module _ (n N : ℕ) (t : List ℕ) (needed room : ℕ) (lettered : is_alphabet n ≡ true) where
   abbrev by_work : Option FirstCause
   by_work = refused_if (ltb room needed) 7 needed
 
-  -- what `check_table` answers
-  abbrev checked : Result ⊤ Refusal
-  checked = unless (table_refusal n N t needed room) (tt {0})
+  -- what `check_table` says
+  abbrev said : Result ⊤ Refusal
+  said = unless (table_refusal n N t needed room) (tt {0})
 
-  pub table_short : {r : Refusal} → Err r ≡ unless by_size (tt {0}) → Err r ≡ checked
+  by_stages : said ≡ unless (or_else (lent_refusal n N t) (or_else by_work (cell_refusal n N t))) (tt {0})
   unfolding table_refusal
-  table_short e = err_first by_size (tt {0}) (tt {0}) (or_else by_work (cell_refusal n N t)) e
+  by_stages = rw lettered
 
-  -- the size is fine: work and cells decide
-  module _ {u : ⊤} (l : Ok u ≡ unless by_size (tt {0})) where
-    then_work : {x : Result ⊤ Refusal} → x ≡ unless (or_else by_work (cell_refusal n N t)) (tt {0}) → x ≡ checked
-    unfolding table_refusal
-    then_work e = ok_next by_size (tt {0}) (tt {0}) (or_else by_work (cell_refusal n N t)) l e
+  pub table_short : {r : Refusal} → Err r ≡ unless (lent_refusal n N t) (tt {0}) → Err r ≡ said
+  table_short e = rw by_stages (err_first (lent_refusal n N t) (tt {0}) (tt {0}) (or_else by_work (cell_refusal n N t)) e)
+
+  -- the table is lent: work and cells decide
+  module _ {u : ⊤} (l : Ok u ≡ unless (lent_refusal n N t) (tt {0})) where
+    then_work : {x : Result ⊤ Refusal} → x ≡ unless (or_else by_work (cell_refusal n N t)) (tt {0}) → x ≡ said
+    then_work e = rw by_stages (ok_next (lent_refusal n N t) (tt {0}) (tt {0}) (or_else by_work (cell_refusal n N t)) l e)
 
     -- the work's test, as a stage
     as_stage : unless_short Work needed room ≡ unless by_work (tt {0})
     as_stage = short_unless Work needed room (cause_numbered Work)
 
-    pub table_work : {r : Refusal} → Err r ≡ unless_short Work needed room → Err r ≡ checked
+    pub table_work : {r : Refusal} → Err r ≡ unless_short Work needed room → Err r ≡ said
     table_work e = then_work (err_first by_work (tt {0}) (tt {0}) (cell_refusal n N t) (e ∙ as_stage))
 
     -- so is the work: the cells decide
-    module _ (w : Ok tt ≡ unless_short Work needed room) where
-      then_cells : {x : Result ⊤ Refusal} → x ≡ unless (cell_refusal n N t) (tt {0}) → x ≡ checked
-      then_cells e = then_work (ok_next by_work (tt {0}) (tt {0}) (cell_refusal n N t) (w ∙ as_stage) e)
-
-      pub table_faulty : {r : Refusal} → Err r ≡ walked_as n N t → Err r ≡ checked
-      unfolding walked_as
-      table_faulty e = then_cells (err_any (cell_refusal n N t) (walk_of n N t) (tt {0}) e)
-
-      pub table_sound : {seen : Walked} → Ok seen ≡ walked_as n N t → Ok tt ≡ checked
-      table_sound e = then_cells (ok_unless (cell_refusal n N t) (tt {0}) (walk_ok n N t e).0)
+    pub table_cells : {x : Result ⊤ Refusal} → Ok tt ≡ unless_short Work needed room → x ≡ unless (cell_refusal n N t) (tt {0}) → x ≡ said
+    table_cells w e = then_work (ok_next by_work (tt {0}) (tt {0}) (cell_refusal n N t) (w ∙ as_stage) e)
 
 -- ── The query, then its table ──
 
@@ -156,20 +146,19 @@ query_alphabet n query e = alphabet_of_lem n query (unless_ok (text_refusal n fa
 
 pub record Fine (n N : ℕ) (t query : List ℕ) (room : ℕ) : Type 0 where
   pub text : text_refusal n false query ≡ none
-  pub alphabet : (1 ≤ n) × (n ≤ 26)
-  pub lent : (1 ≤ N) × (N ≤ point_limit) × (N * (2 * n) ≤ length t)
   pub enough : length query ≤ room
-  pub canonical : Canonical N (usual n) (cell n N t)
+  pub sound : IsSound n N t
 
 pub fine : (n N : ℕ) (t query : List ℕ) (room : ℕ) → member_refusal n N t query room ≡ none → Fine n N t query room
 unfolding member_refusal cell_refusal
 fine n N t query room e =
     record {
       text = a.0;
-      alphabet = letters;
-      lent = lent_in n N (length t) (not-false _ (unrefused (not (is_lent n N (length t))) 6 0 b.0));
       enough = ltb-false room (length query) (unrefused (ltb room (length query)) 7 (length query) d.0);
-      canonical = table_none_canonical n N t letters.0 (no_cell (faulty_cell N (usual n) (cell n N t)) d.1);
+      sound = record {
+        lent = table;
+        canonical = table_none_canonical n N t table.lettered (no_cell (faulty_cell N (usual n) (cell n N t)) d.1);
+      };
     }
   where
     a : (text_refusal n false query ≡ none) × (or_else (refused_if (not (is_lent n N (length t))) 6 0) (or_else (refused_if (ltb room (length query)) 7 (length query)) (at_cell (faulty_cell N (usual n) (cell n N t)))) ≡ none)
@@ -181,8 +170,10 @@ fine n N t query room e =
     d : (refused_if (ltb room (length query)) 7 (length query) ≡ none) × (at_cell (faulty_cell N (usual n) (cell n N t)) ≡ none)
     d = else_none _ _ b.1
 
-    letters : (1 ≤ n) × (n ≤ 26)
-    letters = alphabet_in n (alphabet_of_lem n query a.0)
+    table : IsLent n N t
+    table =
+        tested_lent (alphabet_of_lem n query a.0)
+        (not-false _ (unrefused (not (is_lent n N (length t))) 6 0 b.0))
 
 module _ (n N : ℕ) (t query work : List ℕ) where
   -- the work has room for the query's word, and holds what is left of it

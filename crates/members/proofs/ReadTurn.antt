@@ -1,32 +1,15 @@
--- The turns of `read` on plain values: i letters lead from the base to v, and the rest is still to be read. The cell that `step` looks up.
+-- The turns of `read` on plain values: i letters lead from the base to v, and the rest is still to be read.
 -- Assumes nothing.
-use mathlib.Core.Path.{◌≡◌, refl, sym, ◌∙◌, ap}
-use mathlib.Core.Logic.{by_cases}
+use mathlib.Core.Path.{◌≡◌, sym, ◌∙◌, ap}
 use mathlib.Core.List.{List, ◌∷◌}
-use Prim.Native.Nat.{ℕ, suc, ◌+◌, ◌*◌, ◌≤◌, ◌<◌}
-use native.Mathlib.Decide.{ℕ_discrete}
+use Prim.Native.Nat.{ℕ, suc, ◌+◌, ◌≤◌, ◌<◌}
 use native.Mathlib.Numerals.{add-one}
-use native.Mathlib.Omega.{arith}
 use lib.ListN.{length, get_or, drop, drop_of_length-le}
 use lib.Seq.{drop-cons}
 use borrow.Author.Tests.{eq-eqb, ne_eqb}
 use Rattle.std.specs.declared.result.Result.TheVariants.{Ok, Err}
-use Rattle.theory.specs.Letters.{usual}
 use Rattle.theory.specs.Tables.{absent, Cells, cell, stopped, reading_from, reading_of}
-use Rattle.theory.specs.Canonical.{Canonical}
-use Rattle.theory.proofs.TableLaws.{cell_bounded, length_usual, get_or_usual}
 use Rattle.members.specs.Readings.{read_as, reading_as}
-
--- ── One cell ──
-
-pub cell_beyond : (n N : ℕ) (t : List ℕ) (v y : ℕ) → 2 * n ≤ y → absent ≡ cell n N t v y
-cell_beyond n N t v y h =
-    by_cases (ℕ_discrete (cell n N t v y) absent) sym
-    (λ e. let b = cell_bounded n N t v y e in
-    let p : b.1.0 < 2 * n = omega (arith, b.1.1, length_usual n) in
-    absurd (omega (arith, b.1.2, get_or_usual n b.1.0 p)))
-
--- ── The loop ──
 
 module _ (c : Cells) (k v y : ℕ) (w : List ℕ) where
   pub reading_stop : c v y ≡ absent → reading_from c k v (y ∷ w) ≡ stopped k v y
@@ -43,18 +26,15 @@ pub record Head (n N : ℕ) (t word : List ℕ) (i v : ℕ) : Type 0 where
   pub passed : reading_of (cell n N t) word ≡ reading_from (cell n N t) i v (drop i word)
 
 module _ {n N : ℕ} {t word : List ℕ} where
-  pub head_first : 1 ≤ N → Head n N t word 0 0
-  head_first h = record { here = h; passed = refl }
-
   module _ {i v : ℕ} (h : Head n N t word i v) (l : i < length word) where
     -- the next letter stands in front of the rest
     rest : reading_of (cell n N t) word ≡ reading_from (cell n N t) i v (get_or word i 0 ∷ drop (suc i) word)
     rest = h.passed ∙ ap (reading_from (cell n N t) i v) (drop-cons word i 0 l)
 
-    pub head_turn : {x : ℕ} → Canonical N (usual n) (cell n N t) → x ≡ cell n N t v (get_or word i 0) → (x ≡ absent → ⊥) → Head n N t word (i + 1) x
-    head_turn {x} k e ne =
+    pub head_turn : {x : ℕ} → x ≡ cell n N t v (get_or word i 0) → x < N → (x ≡ absent → ⊥) → Head n N t word (i + 1) x
+    head_turn {x} e inside ne =
         record {
-          here = k.within v (get_or word i 0) x (sym e, ne);
+          here = inside;
           passed =
               rw (add-one i)
               (rest

@@ -4,13 +4,13 @@ use Rattle.std.proofs.lemmas.Result.{err_from_is_err_and}
 use Rattle.members.proofs.AnswerLaws.{query_text, query_table, query_alphabet}
 use Rattle.members.proofs.check_query.Goals as goal
 
-pub returns-in_err-scan : goal.returns-in_err-scan
-returns-in_err-scan c =
+pub returns-in_err-scan-clause-tested : goal.returns-in_err-scan-clause-tested
+returns-in_err-scan-clause-tested c =
     let p = err_from_is_err_and c.from_residual.result c.from_residual.ensures.1 in
-    record { checked = rw (p.1, p.2) (query_text _ _ _ _ _ c.in_err-scan.ensures.first) }
+    rw (p.1, p.2) (query_text _ _ _ _ _ c.in_err-scan.ensures.first)
 
 pub check_table-requires : goal.check_table-requires
-check_table-requires c = query_alphabet c.args.s.n c.args.query.now c.in_ok-scan.ensures.first
+check_table-requires c = query_alphabet _ c.args.query.now c.in_ok-scan.ensures.first
 
-pub returns : goal.returns
-returns c = record { checked = query_table _ _ _ _ _ c.in_ok-scan.ensures.first c.check_table.ensures.checked }
+pub returns-clause-tested : goal.returns-clause-tested
+returns-clause-tested c = query_table _ _ _ _ _ c.in_ok-scan.ensures.first c.check_table.ensures.tested

@@ -3,7 +3,7 @@
 use mathlib.Core.Path.{sym}
 use native.Mathlib.Omega.{arith}
 use lib.Seq.{length-take-le}
-use Rattle.members.proofs.AnswerLaws.{fine, reduce_room, left_room, decided}
+use Rattle.members.proofs.AnswerLaws.{reduce_room, left_room, decided}
 use Rattle.members.proofs.decide.Goals as goal
 
 pub reduce-left-requires : goal.reduce-left-requires
@@ -16,9 +16,6 @@ pub slice_bounds-read-end-2 : goal.slice_bounds-read-end-2
 slice_bounds-read-end-2 c =
     let h = left_room _ _ _ _ _ c.requires c.reduce-left.ensures.reduced c.reduce-left.auto.work in
     sym (length-take-le _ _ (omega (arith, h.0, h.1)))
-
-pub read-reading-requires : goal.read-reading-requires
-read-reading-requires c = let f = fine _ _ _ _ _ c.requires in record { canonical = f.canonical; le_n = (f.alphabet.0, f.alphabet.1, f.lent.0, f.lent.1, f.lent.2) }
 
 pub fill-requires : goal.fill-requires
 fill-requires c = let h = left_room _ _ _ _ _ c.requires c.reduce-left.ensures.reduced c.reduce-left.auto.work in omega (arith, h.1)

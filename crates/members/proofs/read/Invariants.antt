@@ -4,4 +4,4 @@ use Rattle.members.proofs.ReadTurn.{Head}
 use Rattle.members.proofs.read.Given as goal
 
 abbrev pub invariant-loop-i : goal.invariant-loop-i
-invariant-loop-i l = Head l.s.n l.s.points l.table l.word l.i l.v
+invariant-loop-i l = Head l.t.n l.t.points l.t.cells.now l.word l.i l.v
