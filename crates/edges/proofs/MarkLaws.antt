@@ -1,5 +1,5 @@
 -- Marks in the work cells, the rows they stand for, and the number of an edge (`specs/Edges`, `specs/Steps`).
---   run_small, row_small, row_cut : the rows of marks, in numbers
+--   row_small : the rows of marks, in numbers
 --   row_first, row_grows, mark_near : the first run starts at row 0, rows of marks grow, and the last mark up to a row is found by dividing
 --   found_first, found_later, found_mark : the tally that a mark's cells hold
 --   Marking <-> the first j marks are left, and the tally stands at the row of mark j; marking_first, marking_rows, marking_turn : so it is at first, and after a mark
@@ -9,7 +9,7 @@ use mathlib.Core.Path.{◌≡◌, refl, sym, ◌∙◌, ap}
 use mathlib.Core.Logic.{by_cases}
 use mathlib.Core.Bool.{true}
 use mathlib.Core.List.{List, [], ◌∷◌, ◌++◌, append_assoc, append-nil}
-use Prim.Native.Nat.{ℕ, zero, suc, ◌+◌, ◌-◌, ◌*◌, ◌/◌, ◌≤◌, ◌<◌, min}
+use Prim.Native.Nat.{ℕ, zero, suc, ◌+◌, ◌-◌, ◌*◌, ◌/◌, ◌≤◌, ◌<◌}
 use native.Mathlib.Nat.{suc-mul, mul-le-mul_right, mul-le-mul, div-le_self, div-mul-le_self, lt-mul-div-succ}
 use native.Mathlib.Decide.{ℕ_discrete, dec_lt}
 use native.Mathlib.Numerals.{add-one}
@@ -21,51 +21,34 @@ use Rattle.theory.specs.Tables.{Cells, cell}
 use Rattle.theory.specs.Basis.{Spot, spots_of, scan, is_edge, edges_of, outside_edges, number_in}
 use Rattle.theory.proofs.PathLaws.{spot}
 use Rattle.theory.proofs.EdgeLaws.{number_at_lem, distinct_outside}
+use Rattle.tables.proofs.LentLaws.{IsSound, sound_setting}
 use Rattle.tables.proofs.ScanLaws.{spots_to, get_or_spots, spots_there}
 use Rattle.edges.specs.declared.Tally.{Tally}
-use Rattle.edges.specs.Edges.{Sound, is_outside, outside_in, tally_before, mark_row, marks_of}
+use Rattle.edges.specs.Edges.{is_outside, outside_in, tally_before, mark_row, marks_of}
 use Rattle.edges.specs.Steps.{tally_at, run_of, left, found}
-use Rattle.edges.proofs.StepLaws.{sound_setting}
 use Rattle.edges.proofs.TallyLaws.{tally_eq, outside_append, outside_first, tally_start}
 
 -- ── Rows of marks ──
 
 module _ (N k : ℕ) where
-  pub run_small : N / (k + 1) ≤ N
+  run_small : N / (k + 1) ≤ N
   run_small = div-le_self N (k + 1)
-
-  pub run_is : N / (k + 1) + 1 ≡ run_of N k
-  unfolding run_of
-  run_is = refl
-
-  pub run_positive : 1 ≤ run_of N k
-  unfolding run_of
-  run_positive = omega arith
 
   -- the runs reach behind the last row
   runs_reach : N < (k + 1) * run_of N k
-  unfolding run_of
   runs_reach = lt-mul-div-succ N {b = k + 1} (omega arith)
 
-  row_is : (j : ℕ) → mark_row N k j ≡ min (j * run_of N k) N
-  unfolding mark_row run_of
-  row_is j = refl
-
-  module _ (j : ℕ) {run : ℕ} (q : run ≡ run_of N k) where
-    pub row_small : N ≤ 1048577 → j ≤ 1048576 → j * run ≤ 1099514773504
-    row_small h l =
-        let b : run ≤ 1048578 = omega (arith, q, run_is, run_small) in omega (arith, mul-le-mul l b)
-
-    pub row_cut : min N (j * run) ≡ mark_row N k j
-    row_cut = let e = ap (λ r. j * r) q in omega (arith, e, row_is j)
+  pub row_small : (j : ℕ) {run : ℕ} → run ≡ run_of N k → N ≤ 1048577 → j ≤ 1048576 → j * run ≤ 1099514773504
+  row_small j {run} q h l =
+      let b : run ≤ 1048578 = omega (arith, q, run_small) in omega (arith, mul-le-mul l b)
 
   pub row_first : 0 ≡ mark_row N k 0
-  row_first = sym (row_is 0 ∙ omega arith)
+  row_first = omega arith
 
   pub row_grows : (j : ℕ) → (mark_row N k j ≤ mark_row N k (j + 1)) × (mark_row N k (j + 1) ≤ N)
   row_grows j =
       let e : (j + 1) * run_of N k ≡ j * run_of N k + run_of N k = ap (λ i. i * run_of N k) (add-one j) ∙ suc-mul j (run_of N k) in
-      (omega (arith, e, row_is j, row_is (j + 1)), omega (arith, row_is (j + 1)))
+      (omega (arith, e), omega arith)
 
   -- the last mark up to row v
   pub mark_near : {v run : ℕ} → run ≡ run_of N k → v < N → (v / run ≤ k) × (mark_row N k (v / run) ≤ v)
@@ -74,7 +57,7 @@ module _ (N k : ℕ) where
       let e = ap (λ r. v / run * r) q in (
         by_cases (dec_lt k (v / run))
             (λ b. let l : k + 1 ≤ v / run = omega arith in absurd (omega (arith, runs_reach, mul-le-mul_right (run_of N k) l, d, e))) (λ b. omega arith),
-        omega (arith, row_is (v / run), d, e),
+        omega (arith, d, e),
       )
 
 -- ── A mark's cells ──
@@ -125,7 +108,7 @@ module _ (c : Cells) (N : ℕ) (ys : List ℕ) (k : ℕ) where
   -- one mark more is left behind the first j
   left_more : (old : List ℕ) (j : ℕ) → 2 * j + 2 ≤ length old
       → left (marks_of c N ys k j ++ drop (2 * j) old) j (at (suc j)) ≡ marks_of c N ys k (suc j) ++ drop (2 * suc j) old
-  unfolding left marks_of
+  unfolding marks_of
   left_more old j h =
       ap (λ l. set (set (A ++ l) (2 * j) a) (2 * j + 1) b) parts
       ∙ ap (λ l. set l (2 * j + 1) b) (set_at A p (q ∷ R) a (2 * j) (length_marks j) ∙ sym (append_assoc A (a ∷ []) (q ∷ R)))
@@ -156,7 +139,7 @@ module _ (c : Cells) (N : ℕ) (ys : List ℕ) (k : ℕ) where
           drop-cons old (2 * j) 0 (omega arith)
           ∙ ap (λ l. p ∷ l) (drop-cons old (suc (2 * j)) 0 (omega arith) ∙ ap (λ i. q ∷ drop i old) (let e : suc (suc (2 * j)) ≡ 2 * suc j = omega arith in e))
 
-module _ {n N : ℕ} {t : List ℕ} (S : Sound n N t) where
+module _ {n N : ℕ} {t : List ℕ} (S : IsSound n N t) where
   abbrev c : Cells
   c = cell n N t
 
@@ -238,7 +221,7 @@ pub record Marking (n N : ℕ) (t : List ℕ) (k : ℕ) (old : List ℕ) (j : �
   pub row_is : row ≡ mark_row N k j
   pub tally_is : tally ≡ tally_before (cell n N t) N (usual n) row
 
-module _ {n N : ℕ} {t : List ℕ} (S : Sound n N t) {k : ℕ} {old : List ℕ} where
+module _ {n N : ℕ} {t : List ℕ} (S : IsSound n N t) {k : ℕ} {old : List ℕ} where
   pub marking_first : Marking n N t k old 0 old 0 (record { met = 0; edges = 0 })
   unfolding marks_of
   marking_first = record { cells = refl; row_is = row_first N k; tally_is = tally_start S }

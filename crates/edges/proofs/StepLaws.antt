@@ -1,5 +1,4 @@
 -- Where points are first met, read off their own rows (`specs/Steps`), and the edges that no path uses.
---   sound_sizes, sound_setting : what a sound table gives
 --   back_absent, back_there : the place of the cell that leads back
 --   Least c N w x z least <-> `least` is the least place back from x by the letters below z, or lies behind all places
 --   least_turn, least_done : so it is after a letter more; and at the end it is where x is first met
@@ -28,19 +27,18 @@ use Rattle.theory.proofs.WordLaws.{letters}
 use Rattle.theory.proofs.RefusalLaws.{and_true}
 use Rattle.theory.proofs.TableLaws.{length_usual, get_or_usual, row_below}
 use Rattle.theory.proofs.PlaceLaws.{passes_fails, fails, ComesBefore, IsFirst, position_of_before, before_cases, first_place_some, first_place_is, first_place_is_none}
-use Rattle.theory.proofs.PathLaws.{Setting, usual_setting, spot, Step, leads_in, met, step_leads}
+use Rattle.theory.proofs.PathLaws.{spot, Step, leads_in, met, step_leads}
 use Rattle.theory.proofs.EdgeLaws.{is_path_step_sound}
-use Rattle.tables.proofs.CellTurn.{or_false, Sizes, sizes, product_small}
-use Rattle.edges.specs.Edges.{Sound, is_outside}
+use Rattle.tables.proofs.LentLaws.{IsSound, sound_setting}
+use Rattle.tables.proofs.CellTurn.{or_false}
+use Rattle.edges.specs.Edges.{is_outside}
 use Rattle.edges.specs.Steps.{place_back, place_of, step_place}
 
 module _ (c : Cells) (N w x z : ℕ) where
-  pub back_absent : c x z ≡ absent → place_back c N w x z ≡ N * w
-  unfolding place_back
+  back_absent : c x z ≡ absent → place_back c N w x z ≡ N * w
   back_absent e = rw (eq-eqb (c x z) absent e)
 
-  pub back_there : (c x z ≡ absent → ⊥) → place_back c N w x z ≡ c x z * w + inv z
-  unfolding place_back
+  back_there : (c x z ≡ absent → ⊥) → place_back c N w x z ≡ c x z * w + inv z
   back_there e = rw (ne_eqb (c x z) absent e)
 
 pub record Least (c : Cells) (N w x z least : ℕ) : Type 0 where
@@ -58,28 +56,22 @@ module _ (c : Cells) (N w x : ℕ) where
             (λ b. inr (z, omega arith, omega (arith, e))) (λ b. ⊎_elim (λ q. inl (omega (arith, q))) (λ s. inr (s.0, omega (arith, s.1), omega (arith, s.2))) L.held);
       })
 
-module _ {n N : ℕ} {t : List ℕ} (S : Sound n N t) where
+module _ {n N : ℕ} {t : List ℕ} (S : IsSound n N t) where
   abbrev c : Cells
   c = cell n N t
 
   abbrev w : ℕ
   w = 2 * n
 
-  pub sound_sizes : Sizes n N (length t)
-  sound_sizes = sizes S.alphabet S.lent
-
-  pub sound_setting : Setting (cell n N t) N (usual n)
-  sound_setting = usual_setting n N t S.canonical (omega (arith, sound_sizes.based))
-
   -- a letter that leads somewhere is one of the table's, between points
-  pub leads_small : (v y x : ℕ) → Leads (cell n N t) v y x → (v < N) × (x < N) × (y < 2 * n)
+  leads_small : (v y x : ℕ) → Leads (cell n N t) v y x → (v < N) × (x < N) × (y < 2 * n)
   leads_small v y x l =
-      let b = leads_in sound_setting v y x l in
+      let b = leads_in (sound_setting S) v y x l in
       (b.0, b.1, omega (arith, length_usual n, b.2.1, b.2.2, get_or_usual n b.2.0 (omega (arith, length_usual n, b.2.1))))
 
   -- a point is not the absent mark
-  pub point_there : (x : ℕ) → x < N → x ≡ absent → ⊥
-  point_there x h e = omega (arith, sound_sizes.points)
+  point_there : (x : ℕ) → x < N → x ≡ absent → ⊥
+  point_there x h e = omega (arith, S.lent.points)
 
   -- a cell that holds x is the place back by its inverse letter
   place_again : (u j x : ℕ) → Leads c u j x → place_back c N w x (inv j) ≡ u * w + j
@@ -87,21 +79,9 @@ module _ {n N : ℕ} {t : List ℕ} (S : Sound n N t) where
       let b = S.canonical.inverse u j x l in
       back_there c N w x (inv j) (λ e. b.1 (sym b.0 ∙ e)) ∙ ap (λ k. k * w + inv (inv j)) b.0 ∙ ap (λ k. u * w + k) (letters.twice j)
 
-  pub inverse_small : (j : ℕ) → j < 2 * n → inv j < 2 * n
+  inverse_small : (j : ℕ) → j < 2 * n → inv j < 2 * n
   unfolding inv
   inverse_small j h = omega arith
-
-  -- no place of a row is far
-  pub row_near : (v : ℕ) → v < N → v * (2 * n) + 2 * n ≤ 54526004
-  row_near v h = omega (arith, row_below N (2 * n) v h, product_small n N sound_sizes.letters sound_sizes.points)
-
-  -- the place back of a letter that leads somewhere, in parts, and how far it is
-  module _ (x z : ℕ) {u : ℕ} (q : u ≡ cell n N t x z) (m : u ≡ absent → ⊥) where
-    pub back_value : {i : ℕ} → i ≡ inv z → u * (2 * n) + i ≡ place_back (cell n N t) N (2 * n) x z
-    back_value e = ap (λ k. u * w + k) e ∙ ap (λ k. k * w + inv z) q ∙ sym (back_there c N w x z (λ a. m (q ∙ a)))
-
-    pub back_small : u * (2 * n) + 2 * n ≤ 54526004
-    back_small = row_near u (leads_small x z u (sym q, m)).1
 
   module _ {x z least : ℕ} (L : Least (cell n N t) N (2 * n) x z least) (hz : 2 * n ≤ z) (hx : x < N) where
     -- no cell that holds x stands before the least place
@@ -198,7 +178,7 @@ module _ {n N : ℕ} {t : List ℕ} (S : Sound n N t) where
   forth_test v y x l =
       by_cases (ℕ_discrete x 0)
       (λ z. rw (l.0, eq-eqb x 0 z) (sym (ne_eqb (v * w + y) (N * w) (λ q. omega (arith, q, b.2, row_below N w v b.0)))))
-      (λ z. let m = met sound_setting x z b.1 in at z m.0.point m.0.letter m.1.1 m.3)
+      (λ z. let m = met (sound_setting S) x z b.1 in at z m.0.point m.0.letter m.1.1 m.3)
     where
       b : (v < N) × (x < N) × (y < 2 * n)
       b = leads_small v y x l
@@ -228,7 +208,7 @@ module _ {n N : ℕ} {t : List ℕ} (S : Sound n N t) where
     pub no_step : x ≤ v → is_path_step (cell n N t) N (usual n) v y ≡ false
     no_step h =
         fails (is_path_step c N (usual n) v y)
-        (λ e. omega (arith, (step_leads sound_setting (spot v y) x (is_path_step_sound c N (usual n) v y x l.0 e) (leads_small v y x l).1).0))
+        (λ e. omega (arith, (step_leads (sound_setting S) (spot v y) x (is_path_step_sound c N (usual n) v y x l.0 e) (leads_small v y x l).1).0))
 
   module _ (v y : ℕ) {x : ℕ} (q : x ≡ cell n N t v y) (m : cell n N t v y ≡ absent → ⊥) where
     lead : Leads c v y x

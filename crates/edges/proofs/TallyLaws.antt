@@ -29,7 +29,7 @@ use Rattle.theory.proofs.PlaceLaws.{fails}
 use Rattle.theory.proofs.RowLaws.{earlier_start, cell_of_earlier}
 use Rattle.theory.proofs.PathLaws.{spot}
 use Rattle.theory.proofs.EdgeLaws.{those_length, is_path_step_sound, is_path_step_complete}
-use Rattle.tables.proofs.CellTurn.{product_small}
+use Rattle.tables.proofs.LentLaws.{product_small, IsSound}
 use Rattle.tables.proofs.ScanLaws.{
   and_none,
   those_append,
@@ -47,9 +47,9 @@ use Rattle.tables.proofs.ScanLaws.{
   first_here,
 }
 use Rattle.edges.specs.declared.Tally.{Tally}
-use Rattle.edges.specs.Edges.{Sound, is_outside, outside_in, tally_before}
+use Rattle.edges.specs.Edges.{is_outside, outside_in, tally_before}
 use Rattle.edges.specs.Steps.{place_back, step_place, tally_at}
-use Rattle.edges.proofs.StepLaws.{sound_sizes, back_test, first_least}
+use Rattle.edges.proofs.StepLaws.{back_test, first_least}
 
 -- equal parts, equal tallies
 pub tally_eq : {a b d e : ℕ} → a ≡ d → b ≡ e → ◌≡◌ {A = Tally} (record { met = a; edges = b }) (record { met = d; edges = e })
@@ -108,7 +108,7 @@ module _ (n v : ℕ) where
 
 -- ── Points met ──
 
-module _ {n N : ℕ} {t : List ℕ} (S : Sound n N t) where
+module _ {n N : ℕ} {t : List ℕ} (S : IsSound n N t) where
   abbrev c : Cells
   c = cell n N t
 
@@ -268,5 +268,5 @@ module _ {n N : ℕ} {t : List ℕ} (S : Sound n N t) where
         ap (λ (a : Tally). a.edges) e,
         tally_few v y,
         row_below N (2 * n) v hv,
-        product_small n N (sound_sizes S).letters (sound_sizes S).points,
+        product_small S.lent,
       )

@@ -16,7 +16,7 @@ use Rattle.theory.specs.Basis.{Spot, spots_of, scan, first_met}
 use Rattle.edges.specs.declared.Tally.{Tally}
 use Rattle.edges.specs.Edges.{outside_in}
 
-unfoldable pub place_back : Cells → ℕ → ℕ → ℕ → ℕ → ℕ
+abbrev pub place_back : Cells → ℕ → ℕ → ℕ → ℕ → ℕ
 place_back c N w x z = cond (eqb (c x z) absent) (N * w) (c x z * w + inv z)
 
 abbrev pub place_of : ℕ → ℕ → Option Spot → ℕ
@@ -33,10 +33,10 @@ tally_at c N ys v y =
       edges = length (outside_in c N ys (scan v ys ++ take y (spots_of ys v)));
     }
 
-unfoldable pub run_of : ℕ → ℕ → ℕ
+abbrev pub run_of : ℕ → ℕ → ℕ
 run_of N k = N / (k + 1) + 1
 
-unfoldable pub left : List ℕ → ℕ → Tally → List ℕ
+abbrev pub left : List ℕ → ℕ → Tally → List ℕ
 left work j tally = set (set work (2 * j) tally.met) (2 * j + 1) tally.edges
 
 unfoldable pub found : List ℕ → ℕ → Tally

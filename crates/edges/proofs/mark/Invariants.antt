@@ -4,4 +4,4 @@ use Rattle.edges.proofs.MarkLaws.{Marking}
 use Rattle.edges.proofs.mark.Given as goal
 
 abbrev pub invariant-loop-j : goal.invariant-loop-j
-invariant-loop-j l = Marking l.s.n l.s.points l.table l.marks l.initial.work l.j l.work l.row l.tally
+invariant-loop-j l = Marking l.t.n l.t.points l.t.cells.now l.marks l.initial.work l.j l.work l.row l.tally

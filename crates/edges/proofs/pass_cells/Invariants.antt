@@ -7,4 +7,4 @@ use mathlib.Core.Path.{◌≡◌}
 use Rattle.edges.proofs.pass_cells.Given as goal
 
 abbrev pub invariant-loop-y : goal.invariant-loop-y
-invariant-loop-y l = l.sum ≡ tally_at (cell l.s.n l.s.points l.table) l.s.points (usual l.s.n) l.v l.y
+invariant-loop-y l = l.sum ≡ tally_at (cell l.t.n l.t.points l.t.cells.now) l.t.points (usual l.t.n) l.v l.y

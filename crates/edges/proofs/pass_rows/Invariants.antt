@@ -7,4 +7,4 @@ use mathlib.Core.Path.{◌≡◌}
 use Rattle.edges.proofs.pass_rows.Given as goal
 
 abbrev pub invariant-loop-v : goal.invariant-loop-v
-invariant-loop-v l = l.sum ≡ tally_before (cell l.s.n l.s.points l.table) l.s.points (usual l.s.n) l.v
+invariant-loop-v l = l.sum ≡ tally_before (cell l.t.n l.t.points l.t.cells.now) l.t.points (usual l.t.n) l.v

@@ -6,4 +6,4 @@ use Prim.Native.Nat.{◌*◌}
 use Rattle.edges.proofs.step_place.Given as goal
 
 abbrev pub invariant-loop-z : goal.invariant-loop-z
-invariant-loop-z l = Least (cell l.s.n l.s.points l.table) l.s.points (2 * l.s.n) l.x l.z l.least
+invariant-loop-z l = Least (cell l.t.n l.t.points l.t.cells.now) l.t.points (2 * l.t.n) l.x l.z l.least
