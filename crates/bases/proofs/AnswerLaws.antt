@@ -1,7 +1,6 @@
 -- The stages of `basis` on plain values: what is refused, in order, and what is written where nothing is.
---   early_alphabet, early_size, early_room, early_faulty : a refusal at a stage, 1, 6, 7 or 8, is the answer; early_sound : behind all four is none
---   early_alphabet_held, early_size_held, early_few : what the first two stages tell where they do not refuse
---   early_none, early_fine : none of them applies, and what holds then
+--   early_lent, early_room : a refusal at a stage, 1 or 6, or 7, is the answer; early_cells : behind them the cells decide
+--   early_none, early_clear, early_fine : none of them applies, and what holds then
 --   early_refused, late_refused, written : the three outcomes
 --   basis_refusal_first : the computed refusal is the first cause; basis_refusal_none : it is none exactly if no cause applies
 --   basis_numbered      : the causes are those of numbers 1 to 12
@@ -20,7 +19,7 @@ use Rattle.std.specs.declared.result.Result.TheVariants.{Ok, Err}
 use lib.Dec.{eqb, ltb}
 use lib.ListN.{length, drop, replicate}
 use lib.Seq.{sets, sets-eq, drop-drop}
-use borrow.Author.Tests.{lt-ltb, le-ltb, ltb-true, ltb-false, not-false}
+use borrow.Author.Tests.{lt-ltb, le-ltb, ltb-true, ltb-false}
 use Rattle.theory.specs.Letters.{usual}
 use Rattle.theory.specs.Refusals.{Refusal as FirstCause, turn, First, Cause1, Cause6Lent, CauseShort, is_alphabet, or_else, refused_if}
 use Rattle.theory.specs.TableRefusals.{Cause8, is_lent, at_cell, cell_refusal}
@@ -28,7 +27,6 @@ use Rattle.theory.specs.Tables.{cell}
 use Rattle.theory.specs.Canonical.{faulty_cell}
 use Rattle.theory.specs.Basis.{scan}
 use Rattle.theory.specs.Texts.{list_text}
-use Rattle.theory.proofs.RefusalLaws.{alphabet_in}
 use Rattle.theory.proofs.CanonicalLaws.{table_none_canonical}
 use Rattle.theory.proofs.TableRefusalLaws.{
   Decides,
@@ -50,113 +48,89 @@ use Rattle.refusals.specs.Given.{number_of, refusal_at, given, unless, unless_sh
 use Rattle.refusals.specs.declared.Cause.{Cause}
 use Rattle.refusals.specs.declared.Cause.TheVariants.{Work, Output}
 use Rattle.refusals.specs.declared.Refusal.{Refusal}
-use Rattle.refusals.proofs.UnlessLaws.{unless_ok, unless_err, ok_unless, short_unless}
-use Rattle.refusals.proofs.StageLaws.{err_first, ok_next, held}
+use Rattle.refusals.proofs.UnlessLaws.{unless_ok, unless_err, short_unless}
+use Rattle.refusals.proofs.StageLaws.{err_first, ok_next}
 use Rattle.refusals.proofs.NumberLaws.{Numbered, numbered_only, given_first, refusal_given}
-use Rattle.tables.specs.Walks.{walk_of, walked_as}
-use Rattle.tables.specs.declared.Walked.{Walked}
-use Rattle.tables.proofs.CellTurn.{sizes}
-use Rattle.tables.proofs.WalkLaws.{walk_ok}
+use Rattle.tables.specs.Lent.{IsLent, lent_refusal}
+use Rattle.tables.proofs.LentLaws.{IsSound, lent_free, lent_told}
 use Rattle.lists.specs.declared.TextSize.{TextSize}
-use Rattle.paths.specs.Paths.{Ready, PathsOutcome}
-use Rattle.bases.specs.Words.{Pathed, text_of, size_in}
+use Rattle.paths.specs.Paths.{PathsOutcome}
+use Rattle.bases.specs.Words.{text_of, size_in}
 use Rattle.bases.specs.Bases.{basis_text, BasisCause, early_refusal, basis_refusal, basis_size, work_for, out_for, BasisOutcome}
 use Rattle.bases.proofs.SpotLaws.{basis_scan}
 
 -- ── Refusals 1, 6, 7, 8 ──
 
+or_else-assoc : (a b c : Option FirstCause) → or_else (or_else a b) c ≡ or_else a (or_else b c)
+or_else-assoc none b c = refl
+or_else-assoc (some r) b c = refl
+
+three : (a b c d : Option FirstCause) → or_else (or_else a (or_else b c)) d ≡ or_else a (or_else b (or_else c d))
+three a b c d = or_else-assoc a (or_else b c) d ∙ ap (or_else a) (or_else-assoc b c d)
+
+-- behind the last cause there is none
+pub else_nothing : (o : Option FirstCause) → or_else o none ≡ o
+else_nothing none = refl
+else_nothing (some r) = refl
+
 module _ (n N : ℕ) (t : List ℕ) (room : ℕ) where
-  -- the first three stages; the cells are the fourth
-  abbrev by_alphabet : Option FirstCause
-  by_alphabet = refused_if (not (is_alphabet n)) 1 0
-
-  abbrev by_size : Option FirstCause
-  by_size = refused_if (not (is_lent n N (length t))) 6 0
-
   abbrev by_room : Option FirstCause
   by_room = refused_if (ltb room (4 * N)) 7 (4 * N)
 
-  pub early_alphabet : {r : Refusal} → Err r ≡ unless by_alphabet (tt {0}) → Err r ≡ unless (early_refusal n N t room none) (tt {0})
+  -- the tests of a lent table, the room, the cells, and what comes behind them
+  by_stages : (late : Option FirstCause) → early_refusal n N t room late ≡ or_else (lent_refusal n N t) (or_else by_room (or_else (cell_refusal n N t) late))
   unfolding early_refusal
-  early_alphabet e = err_first by_alphabet (tt {0}) (tt {0}) (or_else by_size (or_else by_room (or_else (cell_refusal n N t) none))) e
+  by_stages late = sym (or_else-assoc (refused_if (not (is_alphabet n)) 1 0) (refused_if (not (is_lent n N (length t))) 6 0) (or_else by_room (or_else (cell_refusal n N t) late)))
 
-  -- the alphabet is fine: size, room and cells decide
-  module _ {u : ⊤} (a : Ok u ≡ unless by_alphabet (tt {0})) where
-    then_size : {x : Result ⊤ Refusal} → x ≡ unless (or_else by_size (or_else by_room (or_else (cell_refusal n N t) none))) (tt {0})
+  pub early_lent : {r : Refusal} → Err r ≡ unless (lent_refusal n N t) (tt {0}) → Err r ≡ unless (early_refusal n N t room none) (tt {0})
+  early_lent e = rw by_stages (err_first (lent_refusal n N t) (tt {0}) (tt {0}) (or_else by_room (or_else (cell_refusal n N t) none)) e)
+
+  -- the table is lent: room and cells decide
+  module _ {u : ⊤} (l : Ok u ≡ unless (lent_refusal n N t) (tt {0})) where
+    then_room : {x : Result ⊤ Refusal} → x ≡ unless (or_else by_room (or_else (cell_refusal n N t) none)) (tt {0})
         → x ≡ unless (early_refusal n N t room none) (tt {0})
-    unfolding early_refusal
-    then_size e = ok_next by_alphabet (tt {0}) (tt {0}) (or_else by_size (or_else by_room (or_else (cell_refusal n N t) none))) a e
+    then_room e = rw by_stages (ok_next (lent_refusal n N t) (tt {0}) (tt {0}) (or_else by_room (or_else (cell_refusal n N t) none)) l e)
 
-    pub early_size : {r : Refusal} → Err r ≡ unless by_size (tt {0}) → Err r ≡ unless (early_refusal n N t room none) (tt {0})
-    early_size e = then_size (err_first by_size (tt {0}) (tt {0}) (or_else by_room (or_else (cell_refusal n N t) none)) e)
+    pub early_room : {r : Refusal} → Err r ≡ unless_short Work (4 * N) room → Err r ≡ unless (early_refusal n N t room none) (tt {0})
+    early_room e =
+        then_room (err_first by_room (tt {0}) (tt {0}) (or_else (cell_refusal n N t) none) (e ∙ short_unless Work (4 * N) room refl))
 
-    pub early_alphabet_held : is_alphabet n ≡ true
-    early_alphabet_held = held (is_alphabet n) 1 0 a
-
-    -- so is the size: room and cells decide
-    module _ {v : ⊤} (l : Ok v ≡ unless by_size (tt {0})) where
-      then_room : {x : Result ⊤ Refusal} → x ≡ unless (or_else by_room (or_else (cell_refusal n N t) none)) (tt {0})
-          → x ≡ unless (early_refusal n N t room none) (tt {0})
-      then_room e = then_size (ok_next by_size (tt {0}) (tt {0}) (or_else by_room (or_else (cell_refusal n N t) none)) l e)
-
-      pub early_room : {r : Refusal} → Err r ≡ unless_short Work (4 * N) room → Err r ≡ unless (early_refusal n N t room none) (tt {0})
-      early_room e =
-          then_room (err_first by_room (tt {0}) (tt {0}) (or_else (cell_refusal n N t) none) (e ∙ short_unless Work (4 * N) room refl))
-
-      pub early_size_held : is_lent n N (length t) ≡ true
-      early_size_held = held (is_lent n N (length t)) 6 0 l
-
-      pub early_few : N ≤ 1048577
-      early_few = (sizes early_alphabet_held early_size_held).points
-
-      -- so is the room: the cells decide
-      module _ {w : ⊤} (m : Ok w ≡ unless_short Work (4 * N) room) where
-        then_cells : {x : Result ⊤ Refusal} → x ≡ unless (or_else (cell_refusal n N t) none) (tt {0})
-            → x ≡ unless (early_refusal n N t room none) (tt {0})
-        then_cells e =
-            then_room (ok_next by_room (tt {0}) (tt {0}) (or_else (cell_refusal n N t) none) (m ∙ short_unless Work (4 * N) room refl) e)
-
-        pub early_faulty : {r : Refusal} → Err r ≡ walked_as n N t → Err r ≡ unless (early_refusal n N t room none) (tt {0})
-        unfolding walked_as
-        early_faulty e = then_cells (err_first (cell_refusal n N t) (walk_of n N t) (tt {0}) none e)
-
-        pub early_sound : {walked : Walked} → Ok walked ≡ walked_as n N t → Ok (tt {0}) ≡ unless (early_refusal n N t room none) (tt {0})
-        early_sound e = then_cells (ok_unless (or_else (cell_refusal n N t) none) (tt {0}) (ap (λ o. or_else o none) (walk_ok n N t e).0))
+    -- there is room: the cells decide
+    pub early_cells : {w : ⊤} → Ok w ≡ unless_short Work (4 * N) room → {x : Result ⊤ Refusal} → x ≡ unless (cell_refusal n N t) (tt {0})
+        → x ≡ unless (early_refusal n N t room none) (tt {0})
+    early_cells m e =
+        then_room (ok_next by_room (tt {0}) (tt {0}) (or_else (cell_refusal n N t) none) (m ∙ short_unless Work (4 * N) room refl)
+        (rw else_nothing e))
 
   -- none of them applies
   pub early_none : {u : ⊤} → Ok u ≡ unless (early_refusal n N t room none) (tt {0}) → early_refusal n N t room none ≡ none
   early_none e = (unless_ok (early_refusal n N t room none) (tt {0}) e).0
 
-  pub early_fine : early_refusal n N t room none ≡ none → Ready n N t room × (4 * N ≤ room)
-  unfolding early_refusal cell_refusal
+  pub early_clear : IsLent n N t → faulty_cell N (usual n) (cell n N t) ≡ none → 4 * N ≤ room → early_refusal n N t room none ≡ none
+  unfolding cell_refusal
+  early_clear l f h = rw (by_stages, lent_free l, le-ltb room (4 * N) h, f)
+
+  pub early_fine : early_refusal n N t room none ≡ none → IsSound n N t × (4 * N ≤ room)
+  unfolding cell_refusal
   early_fine e =
-      let a = else_none _ _ e in
+      let a = else_none _ _ (sym (by_stages none) ∙ e) in
       let b = else_none _ _ a.1 in
-      let d = else_none _ _ b.1 in
-      let f = else_none (at_cell (faulty_cell N (usual n) (cell n N t))) none d.1 in
-      let i = not-false _ (unrefused (not (is_alphabet n)) 1 0 a.0) in
-      let h = ltb-false room (4 * N) (unrefused (ltb room (4 * N)) 7 (4 * N) d.0) in (
+      let d = else_none (at_cell (faulty_cell N (usual n) (cell n N t))) none b.1 in
+      let l = lent_told n N t a.0 in (
         record {
-          alphabet = i;
-          lent = not-false _ (unrefused (not (is_lent n N (length t))) 6 0 b.0);
-          canonical = table_none_canonical n N t (alphabet_in n i).0 (no_cell (faulty_cell N (usual n) (cell n N t)) f.0);
-          room_for = omega arith;
+          lent = l;
+          canonical = table_none_canonical n N t l.lettered (no_cell (faulty_cell N (usual n) (cell n N t)) d.0);
         },
-        h,
+        ltb-false room (4 * N) (unrefused (ltb room (4 * N)) 7 (4 * N) b.0),
       )
 
   -- what comes behind them
   pub early_else : (late : Option FirstCause) → early_refusal n N t room late ≡ or_else (early_refusal n N t room none) late
-  unfolding early_refusal
   early_else late =
-      go (refused_if (not (is_alphabet n)) 1 0) (refused_if (not (is_lent n N (length t))) 6 0) (refused_if (ltb room (4 * N)) 7 (4 * N)) (cell_refusal n N t)
-    where
-      go : (a b c d : Option FirstCause) → or_else a (or_else b (or_else c (or_else d late))) ≡ or_else (or_else a (or_else b (or_else c (or_else d none)))) late
-      go (some x) b c d = refl
-      go none (some x) c d = refl
-      go none none (some x) d = refl
-      go none none none (some x) = refl
-      go none none none none = refl
+      by_stages late
+      ∙ ap (λ o. or_else (lent_refusal n N t) (or_else by_room o)) (ap (λ o. or_else o late) (sym (else_nothing (cell_refusal n N t))))
+      ∙ sym (three (lent_refusal n N t) by_room (or_else (cell_refusal n N t) none) late)
+      ∙ sym (ap (λ o. or_else o late) (by_stages none))
 
 -- none of them is 9
 abbrev Not9 : Option FirstCause → Type 0
@@ -204,17 +178,6 @@ module _ (n N : ℕ) (t work out : List ℕ) where
   whole_text = ap list_text (basis_scan (cell n N t) N (usual n))
 
   module _ (fine : early_refusal n N t (length work) none ≡ none) {after : List ℕ} (p : PathsOutcome n N t work after) where
-    pub ready_after : Pathed n N t after
-    ready_after =
-        let r = (early_fine n N t (length work) fine).0 in
-        record {
-          ready = record { alphabet = r.alphabet; lent = r.lent; canonical = r.canonical; room_for = omega (arith, r.room_for, p.size) };
-          paths = p.paths;
-        }
-
-    pub room_after : 4 * N ≤ length after
-    room_after = omega (arith, (early_fine n N t (length work) fine).1, p.size)
-
     -- the needed cells are cleared, the later ones are as they were
     cleared : {cells : List ℕ} → cells ≡ filled (4 * N) 0 after → cells ≡ filled (4 * N) 0 work
     unfolding filled

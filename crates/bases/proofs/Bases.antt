@@ -33,9 +33,8 @@ use Rattle.theory.specs.Tables.{cell, Accepts}
 use Rattle.theory.specs.Canonical.{Canonical}
 use Rattle.theory.specs.Basis.{expression_of, rank_of}
 use Rattle.theory.specs.Subgroups.{AcceptsExactly, TableOf}
-use Rattle.theory.proofs.RefusalLaws.{alphabet_in}
-use Rattle.theory.proofs.TableRefusalLaws.{else_none, lent_in}
-use Rattle.theory.proofs.PathLaws.{Setting, usual_setting}
+use Rattle.theory.proofs.TableRefusalLaws.{else_none}
+use Rattle.theory.proofs.PathLaws.{Setting}
 use Rattle.theory.proofs.Main.{
   expression_reduces,
   express_unique,
@@ -50,7 +49,7 @@ use Rattle.refusals.specs.declared.Cause.{Cause}
 use Rattle.refusals.specs.declared.Refusal.{Refusal}
 use Rattle.refusals.proofs.UnlessLaws.{unless_ok}
 use Rattle.lists.specs.declared.TextSize.{TextSize}
-use Rattle.paths.specs.Paths.{Ready}
+use Rattle.tables.proofs.LentLaws.{IsSound, sound_setting, lent_alphabet}
 use Rattle.bases.specs.Bases.{basis_words, basis_text, BasisCause, early_refusal, basis_refusal, basis_size, out_for, BasisOutcome}
 use Rattle.bases.proofs.AnswerLaws.{early_fine, early_else, answered_first, basis_refusal_first, basis_refusal_none, basis_numbered}
 
@@ -86,22 +85,21 @@ module _ (n N : ℕ) (t work out : List ℕ) (words bytes : ℕ) (work' out' : L
       let a = unless_ok (basis_refusal n N t (length work) (length out)) (basis_size n N t) h.answer in
       (a.0, ap (λ (s : TextSize). s.words) a.1, ap (λ (s : TextSize). s.bytes) a.1)
 
-  ready : Ready n N t (length work)
+  is_sound : IsSound n N t
   unfolding basis_refusal
-  ready =
+  is_sound =
       (early_fine n N t (length work)
       (else_none (early_refusal n N t (length work) none) _ (sym (early_else n N t (length work) _) ∙ answered.0)).0).0
 
   pub written_canonical : (1 ≤ n) × (n ≤ 26) × (0 < N) × Canonical N (usual n) (cell n N t)
-  written_canonical =
-      let a = alphabet_in n ready.alphabet in (a.0, a.1, (lent_in n N (length t) ready.lent).0, ready.canonical)
+  written_canonical = (is_sound.lent.lettered, is_sound.lent.letters, is_sound.lent.based, is_sound.canonical)
 
   -- the table has its N × 2n cells
   pub written_lent : N * (2 * n) ≤ length t
-  written_lent = (lent_in n N (length t) ready.lent).2
+  written_lent = is_sound.lent.cells
 
   setting : Setting (cell n N t) N (usual n)
-  setting = let c = written_canonical in usual_setting n N t c.3 c.2
+  setting = sound_setting is_sound
 
   pub written_text : (take bytes out' ≡ basis_text n N t) × (drop bytes out' ≡ drop bytes out)
   written_text =
@@ -126,9 +124,9 @@ module _ (n N : ℕ) (t work out : List ℕ) (words bytes : ℕ) (work' out' : L
   unfolding basis_text
   written_list = (
     λ b. ap (text_refusal n true) written_text.0
-        ∙ text_fine n (basis_words n N t) ready.alphabet (basis_below n N t setting) (omega (arith, b, answered.2)),
+        ∙ text_fine n (basis_words n N t) (lent_alphabet is_sound.lent) (basis_below n N t setting) (omega (arith, b, answered.2)),
     λ b. ap (text_refusal n true) written_text.0
-        ∙ text_long n (basis_words n N t) ready.alphabet (omega (arith, b, answered.2)),
+        ∙ text_long n (basis_words n N t) (lent_alphabet is_sound.lent) (omega (arith, b, answered.2)),
   )
 
   -- ── A free basis ──

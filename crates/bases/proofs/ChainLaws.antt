@@ -1,5 +1,6 @@
 -- Paths followed up through the cells (`specs/Chains`), and the loops that write them, on plain values.
 --   sets_append, sets_before : runs of stores, one behind the other and one before the other
+--   Chain N work d x <-> d steps up from x lead through points below N
 --   Up   <-> of the path of v, that stands from byte `at` on, the letters from byte i on are written; up_first, up_turn, up_done
 --   Back <-> of the inverse of the path of x the first i letters are written; back_first, back_turn, back_done
 --   part_length, part_written : a part of the bytes, and one that is written whole
@@ -11,14 +12,14 @@ use Prim.Native.Nat.{ℕ, zero, suc, ◌+◌, ◌-◌, ◌≤◌, ◌<◌}
 use native.Mathlib.Nat.{add-zero}
 use native.Mathlib.Numerals.{add-one}
 use native.Mathlib.Omega.{arith}
-use lib.ListN.{length, get_or, set, take, drop, length-append, length-map, length-set, length-take, length-drop}
-use lib.Seq.{sets, sets-eq, length-sets, set_comm, take-suc-set, take-length, drop-drop}
+use lib.ListN.{length, get_or, set, take, drop, length-append, length-map, length-take, length-drop}
+use lib.Seq.{sets, sets-eq, set_comm, take-suc-set, take-length, drop-drop}
 use borrow.Rule.Slice.PartMut.{put_mid}
 use Rattle.theory.specs.Words.{inv, inverse_by, inverse_of}
 use Rattle.theory.specs.Letters.{byte_of, line_end}
 use Rattle.theory.proofs.WordLaws.{letters, inverse_append}
 use Rattle.theory.proofs.BasisLaws.{length_inverse}
-use Rattle.bases.specs.Chains.{depth_of, noted_path, Chain, path_bytes, back_bytes, loop_bytes}
+use Rattle.bases.specs.Chains.{depth_of, noted_path, path_bytes, back_bytes, loop_bytes}
 
 -- ── Runs of stores ──
 
@@ -93,6 +94,11 @@ inverse_small y h = omega arith
 
 -- ── A path, written backwards ──
 
+-- d steps up from x lead through points below N
+abbrev pub Chain : ℕ → List ℕ → ℕ → ℕ → Type 0
+Chain N work zero x = Unit {0}
+Chain N work (suc d) x = (x < N) × Chain N work d (get_or work x 0)
+
 pub record Up (N : ℕ) (work : List ℕ) (d v at : ℕ) (old : List ℕ) (i p : ℕ) (out : List ℕ) : Type 0 where
   pub left : ℕ
   pub place : i ≡ at + left
@@ -113,8 +119,8 @@ module _ {N : ℕ} {work : List ℕ} {d v at : ℕ} {old : List ℕ} where
         e : h.left ≡ suc (h.left - 1)
         e = omega (arith, h.place)
 
-    pub up_link : at < i → (p < N) × (get_or work (N + p) 0 < 52)
-    up_link l = let m = up_more l in (m.2.0, m.2.1)
+    pub up_link : at < i → p < N
+    up_link l = (up_more l).2.0
 
     pub up_turn : {b : ℕ} → at < i → b ≡ byte_of (get_or work (N + p) 0) → Up N work d v at old (i - 1) (get_or work p 0) (set out (i - 1) b)
     up_turn {b} l e =
@@ -132,7 +138,7 @@ module _ {N : ℕ} {work : List ℕ} {d v at : ℕ} {old : List ℕ} where
               ∙ sets_before old (i - 1) b i (map byte_of h.tail) (omega arith)
               ∙ ap (λ k. sets (set old (i - 1) b) k (map byte_of h.tail)) (let q : i ≡ suc (i - 1) = omega arith in q)
               ∙ ap (λ z. sets (set old (i - 1) z) (suc (i - 1)) (map byte_of h.tail)) e;
-          chain = m.2.2;
+          chain = m.2.1;
         }
       where
         m : (j : ℕ) × (h.left ≡ suc j) × Chain N work (suc j) p
@@ -174,8 +180,8 @@ module _ {N : ℕ} {work : List ℕ} {d x : ℕ} where
         e : h.left ≡ suc (h.left - 1)
         e = omega (arith, h.sum)
 
-    pub back_link : i < d → (p < N) × (get_or work (N + p) 0 < 52)
-    back_link l = let m = back_more l in (m.2.0, m.2.1)
+    pub back_link : i < d → p < N
+    back_link l = (back_more l).2.0
 
     pub back_turn : {b : ℕ} → i < d → i < length cells → b ≡ byte_of (inv (get_or work (N + p) 0))
         → Back N work d x (i + 1) (get_or work p 0) (set cells i b)
@@ -195,7 +201,7 @@ module _ {N : ℕ} {work : List ℕ} {d x : ℕ} where
               ∙ ap (λ l. l ++ (b ∷ [])) h.wrote
               ∙ ap (λ z. map byte_of h.front ++ (z ∷ [])) e
               ∙ sym (map-append byte_of h.front (inv y ∷ []));
-          chain = m.2.2;
+          chain = m.2.1;
         }
       where
         m : (j : ℕ) × (h.left ≡ suc j) × Chain N work (suc j) p
@@ -259,25 +265,3 @@ module _ (N : ℕ) (work : List ℕ) (v y x at : ℕ) (old : List ℕ) where
 
       end_is : end ≡ at + length ((path_bytes N work v ++ byte_of y ∷ []) ++ back_bytes N work x)
       end_is = omega (arith, e, mid_is, length-append (path_bytes N work v ++ byte_of y ∷ []) (back_bytes N work x), length_back_bytes N work x)
-
--- the parts keep the length
-pub line_first : (old : List ℕ) (at : ℕ) (p one : List ℕ) → one ≡ sets old at p → length one ≡ length old
-line_first old at p one e = ap length e ∙ length-sets old at p
-
-pub line_same : (old : List ℕ) (at : ℕ) (p one : List ℕ) (mid b k : ℕ) (q two : List ℕ) → one ≡ sets old at p → two ≡ sets (set one mid b) k q
-    → length two ≡ length old
-line_same old at p one mid b k q two e f =
-    ap length f ∙ length-sets (set one mid b) k q ∙ length-set one mid b ∙ line_first old at p one e
-
--- there is room for the way back, and for the line end
-pub line_back : (old : List ℕ) (at : ℕ) (p one : List ℕ) (b e d k : ℕ) → one ≡ sets old at p → e ≡ d → at + d + k + 2 ≤ length old
-    → at + e + 1 + k ≤ length (set one (at + e) b)
-line_back old at p one b e d k q f h = omega (arith, length-set one (at + e) b, line_first old at p one q)
-
-pub line_end_lem : (old : List ℕ) (at : ℕ) (p one : List ℕ) (b e d k : ℕ) (q two : List ℕ) (to : ℕ) → one ≡ sets old at p
-    → two ≡ sets (set one (at + e) b) (at + e + 1) q → e ≡ d → at + d + k + 2 ≤ length old → to ≡ at + e + 1 + k → to < length two
-line_end_lem old at p one b e d k q two to f g i h j = omega (arith, line_same old at p one (at + e) b (at + e + 1) q two f g)
-
-pub line_whole : (old : List ℕ) (at : ℕ) (p one : List ℕ) (mid b k : ℕ) (q two : List ℕ) (to z : ℕ) → one ≡ sets old at p
-    → two ≡ sets (set one mid b) k q → length (set two to z) ≡ length old
-line_whole old at p one mid b k q two to z e f = length-set two to z ∙ line_same old at p one mid b k q two e f

@@ -1,5 +1,7 @@
--- The paths in the cells are those of the table (`specs/Words`, `Pathed`), and what the tests and lines of spots say.
---   noted_path_lem : what is followed up from x is the path of x; linked : it can be followed
+-- The paths in the cells are those of the table, and what the tests and lines of spots say.
+--   IsPathed n N t work <-> the table is sound, and the work holds the paths of its points; pathed : so does each value of `Pathed`
+--   letter_small : the letters noted are below 52
+--   noted_path_lem : what is followed up from x is the path of x; chain : it can be followed
 --   outside_capital, outside_absent, outside_forth, outside_back : the test for an edge that no path uses
 --   line_text : the line of such an edge
 -- Assumes nothing.
@@ -24,18 +26,26 @@ use Rattle.theory.proofs.TableLaws.{length_usual, get_or_usual}
 use Rattle.theory.proofs.EdgeLaws.{mem_those, mem_scan}
 use Rattle.theory.proofs.PathLaws.{Setting, spot, Step, leads_in, step_leads, path_base, path_step, path_length}
 use Rattle.theory.proofs.BasisLaws.{basis_word_plain}
-use Rattle.tables.proofs.CellTurn.{Sizes}
-use Rattle.paths.proofs.MetLaws.{ready_sizes, ready_setting}
-use Rattle.bases.specs.Chains.{depth_of, noted_path, Chain, Linked, is_noted_step, path_bytes, back_bytes, loop_bytes}
-use Rattle.bases.specs.Words.{Pathed, is_outside, text_of}
-use Rattle.bases.proofs.ChainLaws.{map-append, length_loop_bytes}
+use Rattle.tables.proofs.LentLaws.{IsSound, sound, sound_setting}
+use Rattle.paths.specs.Paths.{PathCells}
+use Rattle.bases.specs.Chains.{depth_of, noted_path, is_noted_step, path_bytes, back_bytes, loop_bytes}
+use Rattle.bases.specs.Words.{is_outside, text_of}
+use Rattle.bases.specs.declared.Pathed.{Pathed}
+use Rattle.bases.proofs.ChainLaws.{Chain, map-append, length_loop_bytes}
 use Rattle.bases.proofs.SpotLaws.{one_outside}
 
 empty : {A : Type 0} (l : List A) → length l ≡ 0 → l ≡ []
 empty [] e = refl
 empty (x ∷ l) e = absurd (omega arith)
 
-module _ {n N : ℕ} {t work : List ℕ} (P : Pathed n N t work) where
+pub record IsPathed (n N : ℕ) (t work : List ℕ) : Type 0 where
+  pub sound : IsSound n N t
+  pub paths : PathCells n N t work
+
+pub pathed : (p : Pathed) → IsPathed p.table.n p.table.points p.table.cells.now p.notes.now
+pathed p = record { sound = sound p.table; paths = p.paths }
+
+module _ {n N : ℕ} {t work : List ℕ} (P : IsPathed n N t work) where
   abbrev c : Cells
   c = cell n N t
 
@@ -43,14 +53,19 @@ module _ {n N : ℕ} {t work : List ℕ} (P : Pathed n N t work) where
   path = path_of (cell n N t) N (usual n)
 
   pub setting : Setting (cell n N t) N (usual n)
-  setting = ready_setting P.ready
-
-  pub pathed_sizes : Sizes n N (length t)
-  pathed_sizes = ready_sizes P.ready
+  setting = sound_setting P.sound
 
   -- what is noted of a point is its last step
   last_step : (x : ℕ) → (x ≡ 0 → ⊥) → x < N → Step c N (usual n) (spot (get_or work x 0) (get_or work (N + x) 0)) x
   last_step x z h = (z, P.paths.met x z h)
+
+  -- a letter is noted of each point, and of the base 0
+  pub letter_small : (x : ℕ) → x < N → get_or work (N + x) 0 < 52
+  letter_small x h =
+      by_cases (ℕ_discrete x 0) (λ z. omega (arith, P.paths.base.1, ap (λ k. get_or work k 0) (let e : N + x ≡ N = omega arith in e)))
+      (λ z. let b = step_leads setting (spot (get_or work x 0) (get_or work (N + x) 0)) x (last_step x z h) h in
+      let i = (leads_in setting (get_or work x 0) (get_or work (N + x) 0) x b.1).2 in
+      omega (arith, length_usual n, get_or_usual n i.0 (omega (arith, length_usual n, i.1)), i.1, i.2, P.sound.lent.letters))
 
   follow : (d x : ℕ) → x < N → length (path x) ≡ d → (noted_path N work d x ≡ path x) × Chain N work d x
   unfolding noted_path
@@ -62,13 +77,9 @@ module _ {n N : ℕ} {t work : List ℕ} (P : Pathed n N t work) where
       let s = path_step setting (spot (get_or work x 0) (get_or work (N + x) 0)) x p h in
       let i = leads_in setting (get_or work x 0) (get_or work (N + x) 0) x b.1 in
       let r = follow d (get_or work x 0) i.0 (omega (arith, e, ap length s, length-append (path (get_or work x 0)) (get_or work (N + x) 0 ∷ []))) in
-      (ap (λ l. l ++ (get_or work (N + x) 0 ∷ [])) r.0 ∙ sym s, (h, small i.2.0 i.2.1 i.2.2, r.1))
-    where
-      small : (i : ℕ) → i < length (usual n) → get_or (usual n) i 0 ≡ get_or work (N + x) 0 → get_or work (N + x) 0 < 52
-      small i l q = omega (arith, length_usual n, get_or_usual n i (omega (arith, length_usual n)), pathed_sizes.letters)
+      (ap (λ l. l ++ (get_or work (N + x) 0 ∷ [])) r.0 ∙ sym s, (h, r.1))
 
   pub depth_is : (x : ℕ) → x < N → depth_of N work x ≡ length (path_of (cell n N t) N (usual n) x)
-  unfolding depth_of
   depth_is x h = P.paths.depth x h
 
   pub depth_small : (x : ℕ) → x < N → depth_of N work x < N
@@ -77,12 +88,11 @@ module _ {n N : ℕ} {t work : List ℕ} (P : Pathed n N t work) where
   pub noted_path_lem : (x : ℕ) → x < N → noted_path N work (depth_of N work x) x ≡ path_of (cell n N t) N (usual n) x
   noted_path_lem x h = (follow (depth_of N work x) x h (sym (depth_is x h))).0
 
-  pub linked : (x : ℕ) → x < N → Linked N work x
-  linked x h = record { point = h; few = pathed_sizes.points; room_for = P.ready.room_for; chain = (follow (depth_of N work x) x h (sym (depth_is x h))).1 }
+  pub chain : (x : ℕ) → x < N → Chain N work (depth_of N work x) x
+  chain x h = (follow (depth_of N work x) x h (sym (depth_is x h))).1
 
   -- the test of the cells is that of the table
   noted_step : (v y x : ℕ) → x < N → is_noted_step N work v y x ≡ (not (eqb x 0) && is_spot v y (first_met c N (usual n) x))
-  unfolding is_noted_step
   noted_step v y x h = by_cases (ℕ_discrete x 0) (λ z. rw (eq-eqb x 0 z)) (λ z. rw (ne_eqb x 0 z, P.paths.met x z h))
 
   module _ (v y : ℕ) where
@@ -100,7 +110,7 @@ module _ {n N : ℕ} {t work : List ℕ} (P : Pathed n N t work) where
         lead = (refl, λ e. m (q ∙ e))
 
         pub target_in : x < N
-        target_in = omega (arith, q, P.ready.canonical.within v y (c v y) lead)
+        target_in = omega (arith, q, P.sound.canonical.within v y (c v y) lead)
 
         forth : is_noted_step N work v y x ≡ is_path_step c N (usual n) v y
         unfolding is_path_step
@@ -118,7 +128,7 @@ module _ {n N : ℕ} {t work : List ℕ} (P : Pathed n N t work) where
             ∙ sym (rw (eq-eqb (y % 2) 0 l, ne_eqb (c v y) absent lead.1, sym forth ∙ sym f ∙ e))
           where
             there : c (c v y) (inv y) ≡ v
-            there = (P.ready.canonical.inverse v y (c v y) lead).0
+            there = (P.sound.canonical.inverse v y (c v y) lead).0
 
             back : (not (eqb v 0) && is_spot x (inv y) (first_met c N (usual n) v)) ≡ is_path_step c N (usual n) (c v y) (inv y)
             back = unfold is_path_step in (ap (λ u. not (eqb v 0) && is_spot u (inv y) (first_met c N (usual n) v)) q ∙ sym (ap (λ u. not (eqb u 0) && is_spot (c v y) (inv y) (first_met c N (usual n) u)) there))
@@ -139,7 +149,7 @@ module _ {n N : ℕ} {t work : List ℕ} (P : Pathed n N t work) where
     module _ (hv : v < N) (hy : y < 2 * n) where
       module _ {x : ℕ} (q : x ≡ cell n N t v y) (e : is_outside (cell n N t) N (usual n) (spot v y) ≡ true) where
         pub far_in : x < N
-        far_in = omega (arith, q, P.ready.canonical.within v y (c v y) (refl, (listed hv hy e).1))
+        far_in = omega (arith, q, P.sound.canonical.within v y (c v y) (refl, (listed hv hy e).1))
 
         pub line_text : text_of (cell n N t) N (usual n) (spot v y ∷ []) ≡ loop_bytes N work v y x
         unfolding text_of list_text loop_bytes path_bytes back_bytes

@@ -21,13 +21,13 @@ use Rattle.theory.specs.Texts.{list_text}
 use Rattle.theory.proofs.WordLaws.{by_test}
 use Rattle.theory.proofs.TableLaws.{length_usual, get_or_usual}
 use Rattle.theory.proofs.PathLaws.{spot}
-use Rattle.tables.proofs.CellTurn.{Sizes}
+use Rattle.tables.specs.Lent.{IsLent}
 use Rattle.bases.specs.Chains.{depth_of, loop_bytes}
-use Rattle.bases.specs.Words.{Pathed, is_outside, basis_in, text_of, size_in, grown, Small}
+use Rattle.bases.specs.Words.{is_outside, basis_in, text_of, size_in, grown, Small}
 use Rattle.lists.specs.declared.TextSize.{TextSize}
 use Rattle.bases.proofs.ChainLaws.{sets_append}
 use Rattle.bases.proofs.SpotLaws.{text_of-append, size_in-append, one_outside, one_used, text_none}
-use Rattle.bases.proofs.PathedLaws.{pathed_sizes, depth_small, far_in, line_text, line_length}
+use Rattle.bases.proofs.PathedLaws.{IsPathed, depth_small, far_in, line_text, line_length}
 
 -- sizes are added one after the other
 grown_twice : (a b d : TextSize) → grown (grown a b) d ≡ grown a (grown b d)
@@ -92,7 +92,7 @@ pub record Rows (n N : ℕ) (t : List ℕ) (old : List ℕ) (v at : ℕ) (out : 
   pub wrote : out ≡ sets old 0 (text_of (cell n N t) N (usual n) (scan v (usual n)))
   pub place : at ≡ length (text_of (cell n N t) N (usual n) (scan v (usual n)))
 
-module _ {n N : ℕ} {t work : List ℕ} (P : Pathed n N t work) where
+module _ {n N : ℕ} {t work : List ℕ} (P : IsPathed n N t work) where
   abbrev c : Cells
   c = cell n N t
 
@@ -134,7 +134,7 @@ module _ {n N : ℕ} {t work : List ℕ} (P : Pathed n N t work) where
             line_length P v y hv hy refl e,
             depth_small P v hv,
             depth_small P (c v y) (far_in P v y hv hy refl e),
-            (pathed_sizes P).points,
+            P.sound.lent.points,
           ),
         ))
         (λ e. let z = none_size c N (usual n) (spot v y ∷ []) (one_used c N (usual n) (spot v y) e) in
@@ -187,7 +187,7 @@ module _ {n N : ℕ} {t work : List ℕ} (P : Pathed n N t work) where
       pub sum_small : (sum.words ≤ 200000000) × (sum.bytes ≤ 200000000000000)
       sum_small =
           let r = row_small v y hv S.letter in
-          let s = pathed_sizes P in (
+          let s = P.sound.lent in (
             omega (arith, r.0, small.0, S.letter, s.letters, s.points, hv, ap (λ (a : TextSize). a.words) S.is),
             omega (arith, r.1, small.1, S.letter, s.letters, s.points, hv, ap (λ (a : TextSize). a.bytes) S.is),
           )
@@ -223,8 +223,8 @@ module _ {n N : ℕ} {t work : List ℕ} (P : Pathed n N t work) where
       r : ((sized (row v (2 * n))).words ≤ 2 * n) × ((sized (row v (2 * n))).bytes ≤ 2097154 * (2 * n))
       r = row_small v (2 * n) h (omega arith)
 
-      s : Sizes n N (length t)
-      s = pathed_sizes P
+      s : IsLent n N t
+      s = P.sound.lent
 
       w : sized (row v (2 * n)) ≡ sized (spots_of (usual n) v)
       w = ap sized (row_whole v (2 * n) (omega arith))

@@ -2,7 +2,7 @@
 --   basis_text n N t    == the basis of the table as a list text
 --   BasisCause         == the causes of `basis`, by number; basis_refusal == the first of them, computed
 --   basis_size         == how many words and bytes are written where nothing is refused
---   work_after, outAfter == the work cells then: 4 × N of them 0, but untouched by refusals 1 to 8; and the output: the text, then as it was
+--   work_for, out_for  == the work cells then: 4 × N of them 0, but untouched by refusals 1 to 8; and the output: the text, then as it was
 --   BasisOutcome      <-> the answer and both buffers are those
 -- `room` is the number of work cells, `space` that of output bytes. Assumes nothing.
 use Rattle.std.specs.Prelude.{◌≡◌, cond, not, List, ◌++◌, ℕ, ◌*◌, eqb, ltb, length, drop}

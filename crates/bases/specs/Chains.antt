@@ -1,34 +1,22 @@
--- Paths as the cells of `paths` hold them, for those that follow them up to the base.
+-- Paths as the cells of `paths` hold them, followed up to the base.
 --   depth_of N work x        == the length of the path of x
 --   noted_path N work d x    == the last d letters of the path of x, followed up through the cells
---   Chain N work d x       <-> d steps up from x lead through points below N, by letters
---   Linked N work x        <-> the path of x can be followed up, all of it
 --   is_noted_step N work v y x == the path of x ends with letter y from v
 --   path_bytes, back_bytes    == the bytes of the path of x, and of its inverse
 --   loop_bytes N work v y x  == the line of a basis word: path of v, letter y, inverse of the path of x, line end
 -- Assumes nothing.
-use Rattle.std.specs.Prelude.{Bool, not, ◌&&◌, List, [], ◌∷◌, ◌++◌, map, ℕ, zero, suc, ◌+◌, ◌*◌, ◌≤◌, ◌<◌, eqb, length, get_or}
+use Rattle.std.specs.Prelude.{Bool, not, ◌&&◌, List, [], ◌∷◌, ◌++◌, map, ℕ, zero, suc, ◌+◌, ◌*◌, eqb, get_or}
 use Rattle.theory.specs.Words.{inverse_of}
 use Rattle.theory.specs.Letters.{byte_of, line_end}
 
-unfoldable pub depth_of : ℕ → List ℕ → ℕ → ℕ
+abbrev pub depth_of : ℕ → List ℕ → ℕ → ℕ
 depth_of N work x = get_or work (2 * N + x) 0
 
 unfoldable pub noted_path : ℕ → List ℕ → ℕ → ℕ → List ℕ
 noted_path N work zero x = []
 noted_path N work (suc d) x = noted_path N work d (get_or work x 0) ++ (get_or work (N + x) 0 ∷ [])
 
-abbrev pub Chain : ℕ → List ℕ → ℕ → ℕ → Type 0
-Chain N work zero x = Unit {0}
-Chain N work (suc d) x = (x < N) × (get_or work (N + x) 0 < 52) × Chain N work d (get_or work x 0)
-
-pub record Linked (N : ℕ) (work : List ℕ) (x : ℕ) : Type 0 where
-  pub point : x < N
-  pub few : N ≤ 1048577
-  pub room_for : 3 * N ≤ length work
-  pub chain : Chain N work (depth_of N work x) x
-
-unfoldable pub is_noted_step : ℕ → List ℕ → ℕ → ℕ → ℕ → Bool
+abbrev pub is_noted_step : ℕ → List ℕ → ℕ → ℕ → ℕ → Bool
 is_noted_step N work v y x = not (eqb x 0) && (eqb (get_or work x 0) v && eqb (get_or work (N + x) 0) y)
 
 unfoldable pub path_bytes : ℕ → List ℕ → ℕ → List ℕ

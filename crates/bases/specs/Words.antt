@@ -1,27 +1,15 @@
 -- The basis words of some spots of a table, their text and its size, cited by the parts of `basis`.
---   Pathed n N t work    <-> the table is lent and canonical, and the work holds the paths of its points
---   AtSpot n N t work v y <-> so it is, and v and y are a point and a letter of it
 --   is_outside c N ys s    == the spot s is an edge that no path uses
 --   basis_in c N ys ss     == the basis words of the edges among the spots ss that no path uses
 --   text_of c N ys ss      == their text, each word with its line end
 --   size_in, grown   == how many they are and how many bytes; a size and that of more spots
 --   Small size k         <-> a size as k rows may have it, so that no sum wraps
 -- Assumes nothing.
-use Rattle.std.specs.Prelude.{Bool, not, ◌&&◌, List, map, ℕ, ◌+◌, ◌*◌, ◌≤◌, ◌<◌, length}
+use Rattle.std.specs.Prelude.{Bool, not, ◌&&◌, List, map, ℕ, ◌+◌, ◌*◌, ◌≤◌, length}
 use Rattle.theory.specs.Tables.{Cells}
 use Rattle.theory.specs.Basis.{Spot, is_path_edge, those, is_edge, basis_word}
 use Rattle.theory.specs.Texts.{list_text}
-use Rattle.paths.specs.Paths.{Ready, PathCells}
 use Rattle.lists.specs.declared.TextSize.{TextSize}
-
-pub record Pathed (n N : ℕ) (t work : List ℕ) : Type 0 where
-  pub ready : Ready n N t (length work)
-  pub paths : PathCells n N t work
-
-pub record AtSpot (n N : ℕ) (t work : List ℕ) (v y : ℕ) : Type 0 where
-  pub pathed : Pathed n N t work
-  pub point : v < N
-  pub letter : y < 2 * n
 
 unfoldable pub is_outside : Cells → ℕ → List ℕ → Spot → Bool
 is_outside c N ys s = is_edge c s && not (is_path_edge c N ys s.point s.letter)

@@ -1,5 +1,5 @@
 -- What `normal` says, on plain values: what is refused, and what is judged where nothing is.
---   refused, judged : the outcomes; ready : what holds where it is to be judged
+--   refused, judged : the outcomes; room_there : there is room where it is to be judged
 --   normal_refusal_first : the computed refusal is the first cause; normal_refusal_none : it is none exactly if no cause applies
 -- Assumes nothing.
 use mathlib.Core.Path.{◌≡◌, refl, sym, ◌∙◌, ap, subst}
@@ -23,9 +23,8 @@ use Rattle.cells.specs.Filled.{filled}
 use Rattle.refusals.specs.Given.{unless}
 use Rattle.refusals.specs.declared.Refusal.{Refusal}
 use Rattle.refusals.proofs.UnlessLaws.{unless_err}
-use Rattle.paths.specs.Paths.{Ready}
 use Rattle.bases.specs.Bases.{early_refusal}
-use Rattle.bases.proofs.AnswerLaws.{early_fine, early_none}
+use Rattle.bases.proofs.AnswerLaws.{else_nothing, early_fine, early_none}
 use Rattle.normals.specs.Normals.{NormalCause, normal_refusal, work_for, NormalOutcome}
 
 module _ (n N : ℕ) (t work : List ℕ) where
@@ -44,9 +43,8 @@ module _ (n N : ℕ) (t work : List ℕ) where
       let a = unless_err (early_refusal n N t (length work) none) (tt {0}) e in told (some a.0) a.1 (ap Err a.2) refl
 
   module _ {u : ⊤} (fine : Ok u ≡ unless (early_refusal n N t (length work) none) (tt {0})) where
-    -- the table is ready to be judged, and there is room
-    pub ready : Ready n N t (length work) × (4 * N ≤ length work)
-    ready = early_fine n N t (length work) (early_none n N t (length work) fine)
+    pub room_there : 4 * N ≤ length work
+    room_there = (early_fine n N t (length work) (early_none n N t (length work) fine)).1
 
     pub judged : {b : Bool} {after : List ℕ} → b ≡ is_normal (cell n N t) N (usual n) → after ≡ filled (4 * N) 0 work
         → NormalOutcome n N t work (Ok b) after
@@ -54,11 +52,6 @@ module _ (n N : ℕ) (t work : List ℕ) where
     judged e d = told none (early_none n N t (length work) fine) (ap Ok e) d
 
 -- ── The first cause ──
-
--- behind the last cause there is none
-else_nothing : (o : Option FirstCause) → or_else o none ≡ o
-else_nothing none = refl
-else_nothing (some r) = refl
 
 module _ (n N : ℕ) (t : List ℕ) (room : ℕ) where
   cells_last : N ≤ absent → Decides (Only 8 (Cause8 n N t)) (or_else (cell_refusal n N t) none)

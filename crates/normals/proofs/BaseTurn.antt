@@ -1,5 +1,5 @@
 -- The letters at the base, as `passes` and `is_normal` ask them, on plain values.
---   passes_absent, passes_base_lem, passes_by : the ends of `passes`
+--   passes_absent, passes_base_lem : a letter passes that is absent at the base, or leads back to it
 --   Asked n N t y <-> the letters before y pass at the base
 --   asked_first, asked_turn, asked_done, asked_no : so it is at the first letter, after one that passes; and what holds at the ends
 -- Assumes nothing.
@@ -19,28 +19,19 @@ use Rattle.theory.proofs.PlaceLaws.{passes_fails, fails}
 use Rattle.theory.proofs.TableLaws.{length_usual, get_or_usual}
 use Rattle.theory.proofs.PathLaws.{Setting}
 use Rattle.cells.specs.Filled.{filled}
-use Rattle.tables.specs.Cells.{Inside}
-use Rattle.paths.specs.Paths.{Ready}
-use Rattle.paths.proofs.MetLaws.{ready_sizes}
 use Rattle.normals.specs.Maps.{passes_base}
 use Rattle.normals.proofs.BackLaws.{all_at, all_each, maps_back}
 use Rattle.normals.proofs.MapTurn.{cleared_size, cleared_again}
 
 module _ (c : Cells) (N : ℕ) (ys : List ℕ) (y : ℕ) {x : ℕ} (q : x ≡ c 0 y) where
   pub passes_absent : x ≡ absent → true ≡ passes_base c N ys y
-  unfolding passes_base
   passes_absent e = sym (rw (eq-eqb (c 0 y) absent (sym q ∙ e)))
 
   -- every basis word leads from the base back to the base
   pub passes_base_lem : Setting c N ys → x ≡ 0 → true ≡ passes_base c N ys y
-  unfolding passes_base
   passes_base_lem S e =
       let z : c 0 y ≡ 0 = sym q ∙ e in
       sym (rw (ne_eqb (c 0 y) absent (λ h. omega arith)) (subst (λ p. leads_back c N ys p ≡ true) (sym z) (maps_back S (λ v. v) (λ v y x l. l))))
-
-  pub passes_by : {b : Bool} → (x ≡ absent → ⊥) → b ≡ leads_back c N ys x → b ≡ passes_base c N ys y
-  unfolding passes_base
-  passes_by n e = e ∙ ap (leads_back c N ys) q ∙ sym (rw (ne_eqb (c 0 y) absent (λ z. n (q ∙ z))))
 
 pub record Asked (n N : ℕ) (t : List ℕ) (y : ℕ) : Type 0 where
   pub letter : y ≤ 2 * n
@@ -62,14 +53,14 @@ module _ (n N : ℕ) (t : List ℕ) where
         }
 
     pub asked_done : 2 * n ≤ y → true ≡ is_normal (cell n N t) N (usual n)
-    unfolding is_normal passes_base
+    unfolding is_normal
     asked_done h =
         sym (all_each (passes_base c N (usual n)) (usual n) 0
         (λ i k. let z : i < 2 * n = omega (arith, length_usual n) in
         ap (passes_base c N (usual n)) (get_or_usual n i z) ∙ A.passed i (omega arith)))
 
   pub asked_no : {y : ℕ} {b : Bool} → y < 2 * n → b ≡ passes_base (cell n N t) N (usual n) y → b ≡ false → false ≡ is_normal (cell n N t) N (usual n)
-  unfolding is_normal passes_base
+  unfolding is_normal
   asked_no {y} h e f =
       sym (fails (is_normal c N (usual n))
       (λ a. passes_fails
@@ -89,12 +80,3 @@ module _ (N : ℕ) (old : List ℕ) (room : 4 * N ≤ length old) {work : List �
     where
       parts : work ≡ filled (N + 3 * N) 0 old
       parts = e ∙ ap (λ k. filled k 0 old) (let z : 4 * N ≡ N + 3 * N = omega arith in z)
-
--- the cells of the base
-pub inside_base : {n N : ℕ} {t : List ℕ} {room y : ℕ} → Ready n N t room → y < 2 * n → Inside n N t 0 y
-inside_base R h =
-    record { alphabet = R.alphabet; lent = R.lent; point = omega (arith, (ready_sizes R).based); letter = h }
-
--- a table is ready for other cells, as many
-pub ready_for_lem : {n N : ℕ} {t : List ℕ} {room k : ℕ} → Ready n N t room → k ≡ room → Ready n N t k
-ready_for_lem {n} {N} {t} R e = subst (Ready n N t) (sym e) R

@@ -27,11 +27,11 @@ use Rattle.theory.proofs.OneTable.{reads_within, reads_snoc}
 use Rattle.theory.proofs.PathLaws.{spot, Step, leads_in, path_base, path_step}
 use Rattle.cells.specs.Filled.{filled}
 use Rattle.cells.proofs.FillTurn.{length_filled}
-use Rattle.paths.specs.Paths.{Ready}
+use Rattle.tables.proofs.LentLaws.{IsSound, sound_setting}
 use Rattle.paths.specs.Notes.{is_new}
 use Rattle.paths.proofs.NoteLaws.{new_none, new_some}
-use Rattle.paths.proofs.MetLaws.{ready_sizes, ready_setting, Met, met_first, met_before, row_met, met_old, first_here, next_here, met_new, met_row}
-use Rattle.normals.specs.Maps.{Carrying, carried_met, carried_cells}
+use Rattle.paths.proofs.MetLaws.{Met, met_first, met_before, row_met, met_old, first_here, next_here, met_new, met_row}
+use Rattle.normals.specs.Maps.{carried_met, carried_cells}
 use Rattle.normals.proofs.BackLaws.{Image, image_there, image_step, maps_back}
 use Rattle.normals.proofs.CarryLaws.{Passed, New, Same, Apart, carried_cases}
 use borrow.Author.Tests.{lt-ltb, le-ltb}
@@ -88,18 +88,18 @@ before_next : (u j v y : ℕ) → j < y → ComesBefore u j (suc v) 0 → ComesB
 before_next u j v y k (inl h) = by_cases (ℕ_discrete u v) (λ e. inr (e, k)) (λ e. inl (omega arith))
 before_next u j v y k (inr h) = absurd (omega (arith, h.1))
 
-module _ {n N : ℕ} {t : List ℕ} {room : ℕ} (R : Ready n N t room) {p : ℕ} (hp : p < N) where
+module _ {n N : ℕ} {t : List ℕ} (R : IsSound n N t) {p : ℕ} (hp : p < N) where
   abbrev c : Cells
   c = cell n N t
 
   pub follow_first : (old : List ℕ) {work : List ℕ} → N ≤ length old → work ≡ set old 0 p → Follow n N t p 0 0 0 work
   follow_first old r e =
-      let b = (ready_sizes R).based in
+      let b = R.lent.based in
       subst (Follow n N t p 0 0 0) (sym e)
       (record {
         passed = met_first R;
         images = λ x h. subst (λ z. Image c N (usual n) p z (get_or (set old 0 p) z 0)) (omega arith)
-            (subst (λ w. Reads (Leads c) p w (get_or (set old 0 p) 0 0)) (sym (path_base (ready_setting R)))
+            (subst (λ w. Reads (Leads c) p w (get_or (set old 0 p) 0 0)) (sym (path_base (sound_setting R)))
             (sym (get_or-set_same old 0 p 0 (omega arith))));
         kept = λ u j h. absurd (⊎_elim (λ k. omega arith) (λ k. omega (arith, k.1)) h);
         room_for = omega (arith, length-set old 0 p);
@@ -113,14 +113,9 @@ module _ {n N : ℕ} {t : List ℕ} {room : ℕ} (R : Ready n N t room) {p : ℕ
       v_met : v ≤ g
       v_met = row_met R F.passed v (omega arith) hv
 
-      pub follow_carrying : Carrying n N t work v y
-      follow_carrying =
-          record {
-            inside = record { alphabet = R.alphabet; lent = R.lent; point = hv; letter = hy };
-            image = record { alphabet = R.alphabet; lent = R.lent; point = image_in v v_met; letter = hy };
-            room_for = F.room_for;
-            within = λ m. R.canonical.within v y (c v y) (refl, m);
-          }
+      -- the row's own point has its image
+      pub follow_image : get_or work v 0 < N
+      follow_image = image_in v v_met
 
       turn_passed : {m : Option ℕ} {after : List ℕ} → Passed c work v y g m after → Follow n N t p v (suc y) g work
       turn_passed P =
@@ -183,7 +178,7 @@ module _ {n N : ℕ} {t : List ℕ} {room : ℕ} (R : Ready n N t room) {p : ℕ
           image_new =
               let step : Step c N (usual n) (spot v y) (c v y) = (λ z. omega (arith, P.beyond), first_here R F.passed hv hy new) in
               subst (Image c N (usual n) p (c v y)) (sym hit)
-              (subst (λ w. Reads (Leads c) p w i) (sym (path_step (ready_setting R) (spot v y) (c v y) step hx))
+              (subst (λ w. Reads (Leads c) p w i) (sym (path_step (sound_setting R) (spot v y) (c v y) step hx))
               (reads_snoc (Leads c) p (path_of c N (usual n) v) (get_or work v 0) y i (F.images v v_met) (refl, P.on)))
 
           before : (u j : ℕ) → ComesBefore u j v y → j < 2 * n → (c u j ≡ absent → ⊥) → Leads c (get_or after u 0) j (get_or after (c u j) 0)
@@ -204,13 +199,13 @@ module _ {n N : ℕ} {t : List ℕ} {room : ℕ} (R : Ready n N t room) {p : ℕ
         where
           gone : leads_back c N (usual n) p ≡ true → c (get_or work v 0) y ≡ absent → ⊥
           gone back e =
-              let b = image_there (ready_setting R) p back (c v y) (R.canonical.within v y (c v y) (refl, P.there)) in
-              let s = image_step (ready_setting R) p back v y (c v y) (get_or work v 0) b.0 (refl, P.there) (F.images v v_met) b.1 in
+              let b = image_there (sound_setting R) p back (c v y) (R.canonical.within v y (c v y) (refl, P.there)) in
+              let s = image_step (sound_setting R) p back v y (c v y) (get_or work v 0) b.0 (refl, P.there) (F.images v v_met) b.1 in
               s.1 (sym s.0 ∙ e)
 
           other : leads_back c N (usual n) p ≡ true → (c v y ≤ g) × (get_or work (c v y) 0 ≡ c (get_or work v 0) y → ⊥) → ⊥
           other back d =
-              d.1 (sym (image_step (ready_setting R) p back v y (c v y) (get_or work v 0) (get_or work (c v y) 0) (refl, P.there)
+              d.1 (sym (image_step (sound_setting R) p back v y (c v y) (get_or work v 0) (get_or work (c v y) 0) (refl, P.there)
               (F.images v v_met) (F.images (c v y) d.0)).0)
 
       module _ {o : Option ℕ} {after : List ℕ} (q : o ≡ carried_met c work v y g) (r : after ≡ carried_cells c work v y g) where
@@ -262,13 +257,13 @@ module _ {n N : ℕ} {t : List ℕ} {room : ℕ} (R : Ready n N t room) {p : ℕ
     pub follow_done : N ≤ v → leads_back c N (usual n) p ≡ true
     follow_done h =
         subst (λ z. leads_back c N (usual n) z ≡ true) (sym base)
-        (maps_back (ready_setting R) (λ x. get_or work x 0) keeps)
+        (maps_back (sound_setting R) (λ x. get_or work x 0) keeps)
       where
         base : p ≡ get_or work 0 0
-        base = subst (λ w. Reads (Leads c) p w (get_or work 0 0)) (path_base (ready_setting R)) (F.images 0 (omega arith))
+        base = subst (λ w. Reads (Leads c) p w (get_or work 0 0)) (path_base (sound_setting R)) (F.images 0 (omega arith))
 
         keeps : (u j x : ℕ) → Leads c u j x → Leads c (get_or work u 0) j (get_or work x 0)
         keeps u j x l =
-            let b = leads_in (ready_setting R) u j x l in
+            let b = leads_in (sound_setting R) u j x l in
             let i : j < 2 * n = omega (arith, length_usual n, get_or_usual n b.2.0 (omega (arith, length_usual n, b.2.1)), b.2.1, b.2.2) in
             subst (λ z. Leads c (get_or work u 0) j (get_or work z 0)) l.0 (F.kept u j (inl (omega arith)) i (λ e. l.1 (sym l.0 ∙ e)))

@@ -5,4 +5,4 @@ use mathlib.Core.Path.{◌≡◌}
 use Rattle.normals.proofs.is_normal.Given as goal
 
 abbrev pub invariant-loop-letter : goal.invariant-loop-letter
-invariant-loop-letter l = Asked l.s.n l.s.points l.table l.letter × (l.work ≡ l.initial.work)
+invariant-loop-letter l = Asked l.t.n l.t.points l.t.cells.now l.letter × (l.work ≡ l.initial.work)

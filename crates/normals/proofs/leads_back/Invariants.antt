@@ -4,7 +4,7 @@ use Rattle.normals.proofs.MapTurn.{Follow, Behind}
 use Rattle.normals.proofs.leads_back.Given as goal
 
 abbrev pub invariant-loop-y : goal.invariant-loop-y
-invariant-loop-y l = Follow l.s.n l.s.points l.table l.p l.v l.y l.met l.work × Behind l.s.points l.initial.work l.work
+invariant-loop-y l = Follow l.t.n l.t.points l.t.cells.now l.p l.v l.y l.met l.work × Behind l.t.points l.initial.work l.work
 
 abbrev pub invariant-loop-v : goal.invariant-loop-v
-invariant-loop-v l = Follow l.s.n l.s.points l.table l.p l.v 0 l.met l.work × Behind l.s.points l.initial.work l.work
+invariant-loop-v l = Follow l.t.n l.t.points l.t.cells.now l.p l.v 0 l.met l.work × Behind l.t.points l.initial.work l.work

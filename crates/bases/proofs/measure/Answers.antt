@@ -1,8 +1,0 @@
-use Rattle.bases.proofs.SumLaws.{sums_first, sums_turn}
-use Rattle.bases.proofs.measure.Goals as goal
-
-pub loop-v-init : goal.loop-v-init
-loop-v-init c = sums_first c.requires
-
-pub loop-v-preserved : goal.loop-v-preserved
-loop-v-preserved c = sums_turn c.requires c.loop-v.invariant c.loop-v-test.true c.add_row-size.ensures.size

@@ -1,8 +1,0 @@
--- `bases::write_path` meets its contract. The loop: the letters from byte i on are written (`ChainLaws`).
--- Assumes nothing.
-use Rattle.bases.proofs.ChainLaws.{Up}
-use Rattle.bases.specs.Chains.{depth_of}
-use Rattle.bases.proofs.write_path.Given as goal
-
-abbrev pub invariant-loop-i : goal.invariant-loop-i
-invariant-loop-i l = Up l.points l.work (depth_of l.points l.work l.v) l.v l.at l.initial.out l.i l.p l.out
