@@ -1,7 +1,7 @@
 -- The stages of `express` on plain values: what is said of the query's word, and what is left in the buffers.
 --   home_said                : a reading ends at the base exactly if the word leads there
 --   room_held, room_short    : what the test of a room tells
---   marked_after, marks_kept : the marks stand in the first cells, the others are as they were
+--   marks_kept               : behind the marks the cells are as they were
 --   numbers_written          : places with their numbers are the numbers noted along the word
 --   word_narrow, word_written : the two outcomes of a member's word
 --   query_refused, expressed : those of a query
@@ -18,7 +18,7 @@ use lib.Dec.{eqb, ltb}
 use lib.IntN.{ℤ}
 use lib.ListN.{length, take, drop, replicate, length-append}
 use lib.Seq.{take_at, drop_at, drop-drop}
-use borrow.Author.Tests.{ne_eqb, lt-ltb, le-ltb, ltb-true, ltb-false, eqb-true}
+use borrow.Author.Tests.{ne_eqb, lt-ltb, le-ltb, ltb-true, ltb-false}
 use Rattle.std.specs.Prelude.{⊤}
 use Rattle.std.specs.declared.option.Option.{Option}
 use Rattle.std.specs.declared.option.Option.TheVariants.{Some}
@@ -28,12 +28,11 @@ use Rattle.theory.specs.Words.{reduced}
 use Rattle.theory.specs.Letters.{usual}
 use Rattle.theory.specs.Refusals.{Refusal as FirstCause, TextCause, or_else, refused_if}
 use Rattle.theory.specs.TableRefusals.{MemberCause, member_refusal}
-use Rattle.theory.specs.Tables.{Cells, cell, end_of, is_at, is_accepted}
+use Rattle.theory.specs.Tables.{Cells, cell, is_accepted}
 use Rattle.theory.specs.Basis.{expression_of}
 use Rattle.theory.proofs.WordLaws.{by_test}
-use Rattle.theory.proofs.PlaceLaws.{passes_fails}
 use Rattle.theory.proofs.RefusalLaws.{refusal_none}
-use Rattle.theory.proofs.TableRefusalLaws.{in_lent, member_refusal_first}
+use Rattle.theory.proofs.TableRefusalLaws.{member_refusal_first}
 use Rattle.cells.specs.Filled.{filled}
 use Rattle.refusals.specs.Given.{refusal_at, unless, unless_short}
 use Rattle.refusals.specs.declared.Cause.{Cause}
@@ -46,12 +45,14 @@ use Rattle.members.specs.Readings.{reading_as}
 use Rattle.members.specs.Members.{query_word}
 use Rattle.members.specs.Stages.{is_at_base}
 use Rattle.members.specs.declared.Stop.{Stop}
-use Rattle.members.proofs.AnswerLaws.{reading_home, alphabet_of_lem, fine, letters_left, cells_behind}
-use Rattle.edges.specs.Edges.{Sound, marks_of}
-use Rattle.expressions.specs.Places.{places_of, numbered, AllAtEdge, Readable}
-use Rattle.expressions.specs.Parts.{is_home, notes_of, in_front, Marked, word_answer, word_out, marked_work, WordOutcome}
+use Rattle.members.proofs.AnswerLaws.{reading_home, fine, letters_left, cells_behind}
+use Rattle.tables.proofs.LentLaws.{IsSound}
+use Rattle.edges.specs.Edges.{marks_of}
+use Rattle.expressions.specs.Places.{places_of, numbered, AllAtEdge}
+use Rattle.expressions.specs.Parts.{is_home, notes_of, in_front, word_answer, word_out, marked_work, WordOutcome}
 use Rattle.expressions.specs.Expressions.{is_inside, numbers_of, express_refusal, expressed_of, work_for, out_for, ExpressOutcome}
 use Rattle.expressions.proofs.PlaceLaws.{places_at, places_noted, places_count}
+use Rattle.expressions.proofs.WalkTurn.{home_end}
 
 -- ── A reading ──
 
@@ -84,17 +85,6 @@ marks_length c N ys k zero = refl
 marks_length c N ys k (suc m) = two_more (marks_of c N ys k m) _ _ ∙ omega (arith, marks_length c N ys k m)
 
 module _ (n N : ℕ) (t work : List ℕ) (marks : ℕ) {after : List ℕ} (e : after ≡ marks_of (cell n N t) N (usual n) marks marks ++ drop (2 * marks) work) where
-  pub marked_after : Sound n N t → 2 * marks ≤ length work → marks ≤ 1048576 → length after ≡ length work → Marked n N t after marks
-  marked_after S room few same =
-      record {
-        sound = S;
-        room = omega arith;
-        few = few;
-        marked =
-            ap (take (2 * marks)) e
-            ∙ take_at (marks_of (cell n N t) N (usual n) marks marks) (drop (2 * marks) work) (2 * marks) (marks_length (cell n N t) N (usual n) marks marks);
-      }
-
   pub marks_kept : drop (2 * marks) after ≡ drop (2 * marks) work
   marks_kept =
       ap (drop (2 * marks)) e
@@ -102,56 +92,44 @@ module _ (n N : ℕ) (t work : List ℕ) (marks : ℕ) {after : List ℕ} (e : a
 
 -- ── Numbers ──
 
-module _ {n N : ℕ} {t : List ℕ} (w : List ℕ) {crossed : ℕ} (out : List ℤ) {placed : List ℤ} (R : Readable n N t w) (h : crossed ≡ length (places_of n N t w))
+module _ {n N : ℕ} {t : List ℕ} (S : IsSound n N t) (w : List ℕ) {crossed : ℕ} (out : List ℤ) {placed : List ℤ} (home : is_home n N t w ≡ true) (h : crossed ≡ length (places_of n N t w))
     (e : placed ≡ in_front (places_of n N t w) out) where
   first_places : take crossed placed ≡ places_of n N t w
   first_places =
       ap (take crossed) e ∙ take_at (places_of n N t w) (drop (length (places_of n N t w)) out) crossed (sym h)
 
   pub places_ready : AllAtEdge n N t (take crossed placed)
-  places_ready = subst (AllAtEdge n N t) (sym first_places) (places_at R.0 w 0 0 R.1)
+  places_ready = subst (AllAtEdge n N t) (sym first_places) (places_at S w 0 0 (home_end n N t w home))
 
   -- the numbers in the places' stead, and what stands behind them
   pub numbers_written : {numbers : List ℤ} → numbers ≡ map (numbered n N t) (take crossed placed) → numbers ++ drop crossed placed ≡ in_front (notes_of n N t w) out
   unfolding notes_of
   numbers_written f =
-      ap (λ l. l ++ drop crossed placed) (f ∙ ap (map (numbered n N t)) first_places ∙ places_noted R.0 w 0 0 R.1)
+      ap (λ l. l ++ drop crossed placed) (f ∙ ap (map (numbered n N t)) first_places ∙ places_noted S w 0 0 (home_end n N t w home))
       ∙ ap (λ l. notes_of n N t w ++ l)
       (ap (drop crossed) e
       ∙ drop_at (places_of n N t w) (drop (length (places_of n N t w)) out) crossed (sym h)
-      ∙ ap (λ k. drop k out) (places_count R.0 w R.1))
+      ∙ ap (λ k. drop k out) (places_count S w (home_end n N t w home)))
 
 -- ── A word ──
 
 module _ {n N : ℕ} {t : List ℕ} (w : List ℕ) where
-  pub word_readable : {b : Bool} → Sound n N t → b ≡ is_home n N t w → b ≡ true → Readable n N t w
-  unfolding is_home
-  word_readable S e f = (S, at (end_of (cell n N t) 0 w) (sym e ∙ f))
-    where
-      at : (o : Known ℕ) → is_at 0 o ≡ true → o ≡ some 0
-      at none g = passes_fails g refl
-      at (some v) g = ap some (eqb-true v 0 g)
-
-  module _ (R : Readable n N t w) {crossed : ℕ} (h : crossed ≡ length (places_of n N t w)) where
-    home_so : is_home n N t w ≡ true
-    unfolding is_home
-    home_so = rw R.1
-
+  module _ (S : IsSound n N t) (home : is_home n N t w ≡ true) {crossed : ℕ} (h : crossed ≡ length (places_of n N t w)) where
     count_so : crossed ≡ length (notes_of n N t w)
     unfolding notes_of
-    count_so = h ∙ places_count R.0 w R.1
+    count_so = h ∙ places_count S w (home_end n N t w home)
 
     pub word_narrow : {marks : ℕ} {work : List ℕ} {out : List ℤ} {r : Refusal} → Err r ≡ unless_short Output crossed (length out) → WordOutcome n N t w marks work out (Err r) work out
     word_narrow {out = out} e =
         let a = room_short Output crossed (length out) e in
         let b = lt-ltb (length out) (length (notes_of n N t w)) (omega (arith, count_so, a.0)) in
-        record { answer = ap Err (a.1 ∙ ap (refusal_at Output) count_so) ∙ rw (home_so, b); numbers = rw (home_so, b); cells = rw (home_so, b) }
+        record { answer = ap Err (a.1 ∙ ap (refusal_at Output) count_so) ∙ rw (home, b); numbers = rw (home, b); cells = rw (home, b) }
 
     pub word_written : {marks : ℕ} {work : List ℕ} {out : List ℤ} {work' : List ℕ} {out' : List ℤ} {u : ⊤} → Ok u ≡ unless_short Output crossed (length out)
         → out' ≡ in_front (notes_of n N t w) out → work' ≡ marked_work n N t marks work → WordOutcome n N t w marks work out (Ok (Some crossed)) work' out'
     word_written {out = out} a e d =
         let b = le-ltb (length out) (length (notes_of n N t w)) (omega (arith, count_so, room_held Output crossed (length out) a)) in
-        record { answer = ap (λ k. Ok (Some k)) count_so ∙ rw (home_so, b); numbers = e ∙ rw (home_so, b); cells = d ∙ rw (home_so, b) }
+        record { answer = ap (λ k. Ok (Some k)) count_so ∙ rw (home, b); numbers = e ∙ rw (home, b); cells = d ∙ rw (home, b) }
 
   -- the cells behind the marks are as they were
   pub word_kept : {marks : ℕ} {work : List ℕ} {out : List ℤ} {r : Result (Option ℕ) Refusal} {work' : List ℕ} {out' : List ℤ} → WordOutcome n N t w marks work out r work' out'
@@ -180,15 +158,6 @@ not_nine n N t query room f e =
 
 -- what holds where none of 1 to 8 applies
 module _ (n N : ℕ) (t query : List ℕ) (room : ℕ) (e : member_refusal n N t query room ≡ none) where
-  pub sound_of : Sound n N t
-  sound_of =
-      let f = fine n N t query room e in
-      record {
-        alphabet = alphabet_of_lem n query f.text;
-        lent = in_lent n N (length t) f.lent.0 f.lent.1 f.lent.2;
-        canonical = f.canonical;
-      }
-
   pub query_few : length query ≤ 1048576
   query_few =
       by_cases (dec_lt 1048576 (length query))

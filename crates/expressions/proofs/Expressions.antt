@@ -34,10 +34,10 @@ use Rattle.theory.proofs.ExpressionLaws.{expression_tidy, expression_product, ex
 use Rattle.refusals.specs.Given.{unless}
 use Rattle.refusals.specs.declared.Refusal.{Refusal}
 use Rattle.refusals.proofs.UnlessLaws.{unless_ok}
+use Rattle.tables.proofs.LentLaws.{sound_setting}
 use Rattle.members.specs.Members.{query_word}
+use Rattle.members.proofs.AnswerLaws.{fine}
 use Rattle.expressions.specs.Expressions.{is_inside, numbers_of, express_refusal, expressed_of, out_for, ExpressOutcome}
-use Rattle.expressions.proofs.PlaceLaws.{setting}
-use Rattle.expressions.proofs.AnswerLaws.{sound_of}
 
 pub record Expresses (n N : ℕ) (t query : List ℕ) (ks : List ℤ) : Type 0 where
   pub tidy : Tidy ks
@@ -71,7 +71,7 @@ module _ {n N : ℕ} {t query work : List ℕ} {out : List ℤ} {r : Result (Opt
   -- the table of an answer is canonical
   canonical_told : refusal ≡ none → Setting (cell n N t) N (usual n)
   unfolding express_refusal
-  canonical_told e = setting (sound_of n N t query (length work) (else_none (member_refusal n N t query (length work)) _ e).0)
+  canonical_told e = sound_setting (fine n N t query (length work) (else_none (member_refusal n N t query (length work)) _ e).0).sound
 
   -- the numbers written
   first_numbers : {k : ℕ} → r ≡ Ok (Some k) → take k out' ≡ expression_of (cell n N t) N (usual n) (query_word query)

@@ -1,9 +1,9 @@
 -- Laws of signed places (`specs/Places`): each is that of an edge outside the paths, and their numbers are those of the expression.
---   letter_in        : a letter that leads somewhere is one of the table's, and leads to one of its points
---   place_small      : a place is far below 2³¹
+--   place_small             : a place is far below 2³¹
+--   letter_in               : a letter that leads somewhere is one of the table's, and leads to one of its points
 --   placed_one, placed_none : an edge that no path uses has one place, another edge none
---   places_at        : every place of a word that reads is that of an edge outside the paths
---   places_noted     : its numbers are what is noted along the word
+--   places_at               : every place of a word that reads is that of an edge outside the paths
+--   places_noted            : its numbers are what is noted along the word
 -- Assumes nothing.
 use mathlib.Core.Path.{◌≡◌, refl, sym, ◌∙◌, ap, subst}
 use mathlib.Core.Logic.{⊎_elim, by_cases}
@@ -12,7 +12,6 @@ use mathlib.Core.Option.{some, none-ne-some}
 use mathlib.Core.List.{List, [], ◌∷◌, ◌++◌, map}
 use Prim.Native.Nat.{ℕ, suc, ◌+◌, ◌-◌, ◌*◌, ◌/◌, ◌%◌, ◌≤◌, ◌<◌}
 use native.Mathlib.Decide.{ℕ_discrete}
-use native.Mathlib.Nat.{mul-le-mul_right}
 use native.Mathlib.Numerals.{add-one}
 use native.Mathlib.Omega.{arith}
 use lib.Arith.{digits_div, digits_mod}
@@ -26,12 +25,10 @@ use Rattle.theory.specs.Tables.{absent, Cells, cell, Leads, end_of}
 use Rattle.theory.specs.Graphs.{is_lower}
 use Rattle.theory.specs.Basis.{Spot, is_edge, is_path_edge, outside_edges, number_in, crossing, crossings}
 use Rattle.theory.proofs.WordLaws.{by_test, letters}
-use Rattle.theory.proofs.RefusalLaws.{alphabet_in}
 use Rattle.theory.proofs.PlaceLaws.{passes_fails}
 use Rattle.theory.proofs.TableLaws.{length_usual, get_or_usual, row_below}
-use Rattle.theory.proofs.TableRefusalLaws.{lent_in}
 use Rattle.theory.proofs.DistinctLaws.{get_or_mem}
-use Rattle.theory.proofs.PathLaws.{Setting, usual_setting, spot, inverses, leads_in}
+use Rattle.theory.proofs.PathLaws.{Setting, spot, inverses, leads_in}
 use Rattle.theory.proofs.EdgeLaws.{
   number_at_lem,
   PathEdge,
@@ -43,7 +40,9 @@ use Rattle.theory.proofs.EdgeLaws.{
   distinct_outside,
 }
 use Rattle.theory.proofs.BasisLaws.{path_crossing}
-use Rattle.edges.specs.Edges.{Sound, is_outside}
+use Rattle.tables.specs.Lent.{IsLent}
+use Rattle.tables.proofs.LentLaws.{product_small, IsSound, sound_setting}
+use Rattle.edges.specs.Edges.{is_outside}
 use Rattle.expressions.specs.Places.{signed_by, place_of, placed, places_from, number_at, numbered, AtEdge, AllAtEdge}
 use Rattle.expressions.proofs.SignLaws.{is_back}
 
@@ -56,9 +55,9 @@ end_step c v y w x e =
     (λ z. (z, rw (ne_eqb (c v y) absent z) at e))
 
 -- a place of the table is far below 2³¹
-pub place_small : (n N v y : ℕ) → n ≤ 26 → N ≤ 1048577 → v < N → y < 2 * n → v * (2 * n) + y + 1 ≤ 54526004
-place_small n N v y hn hN hv hy =
-    omega (arith, row_below N (2 * n) v hv, mul-le-mul_right (2 * n) hN)
+pub place_small : {n N v y : ℕ} {t : List ℕ} → IsLent n N t → v < N → y < 2 * n → v * (2 * n) + y + 1 ≤ 54526004
+place_small {n} {N} {v} L hv hy =
+    omega (arith, row_below N (2 * n) v hv, product_small L)
 
 -- the inverse of a letter is a letter
 pub inverse_in : (n y : ℕ) → y < 2 * n → inv y < 2 * n
@@ -90,7 +89,7 @@ module _ (n N : ℕ) (t : List ℕ) (z : ℤ) {m : ℕ} (e : m ≡ nat_abs z) wh
       at (pos j) = refl
       at (negsuc j) = ap (λ i. neg_ℤ (pos (number_at n N t i))) (let q : suc j - 1 ≡ j = omega arith in q)
 
-module _ {n N : ℕ} {t : List ℕ} (S : Sound n N t) where
+module _ {n N : ℕ} {t : List ℕ} (S : IsSound n N t) where
   -- short names for the table in hand
   abbrev c : Cells
   c = cell n N t
@@ -101,14 +100,8 @@ module _ {n N : ℕ} {t : List ℕ} (S : Sound n N t) where
   abbrev listed : List Spot
   listed = outside_edges c N ys
 
-  pub letters_of : (1 ≤ n) × (n ≤ 26)
-  letters_of = alphabet_in n S.alphabet
-
-  pub points_of : (1 ≤ N) × (N ≤ 1048577) × (N * (2 * n) ≤ length t)
-  points_of = lent_in n N (length t) S.lent
-
-  pub setting : Setting (cell n N t) N (usual n)
-  setting = usual_setting n N t S.canonical points_of.0
+  setting : Setting (cell n N t) N (usual n)
+  setting = sound_setting S
 
   pub letter_in : (v y : ℕ) → (cell n N t v y ≡ absent → ⊥) → (v < N) × (y < 2 * n) × (cell n N t v y < N)
   letter_in v y h =
@@ -177,7 +170,7 @@ module _ {n N : ℕ} {t : List ℕ} (S : Sound n N t) where
   at_place z v y e l q o =
       record {
         some_place = omega arith;
-        small = omega (arith, place_small n N v y letters_of.1 points_of.1 b.0 b.1);
+        small = omega (arith, place_small S.lent b.0 b.1);
         point = subst (λ u. u < N) (sym d) b.0;
         edge =
             ap (λ u. is_edge c (spot u ((nat_abs z - 1) % (2 * n)))) d

@@ -1,11 +1,13 @@
 -- The turns of `count_crossings`, `write_places` and `number_places` on plain values.
+--   home_end     : a word that `is_home` leads to the base
 --   Walk        <-> i letters of the word were read, to v; the places of their edges are `done`, `at` of them
 --   Writing     <-> so it is, and those places stand in front of the output
+--   next_passed, place_passed, next_stored, place_stored : one letter passed, or its place written
 --   changed     == a list whose first i elements are changed by f; next_at, next_numbered : its next place, and once that has its number
 -- Assumes nothing.
 use mathlib.Core.Path.{◌≡◌, refl, sym, ◌∙◌, ap, subst}
 use mathlib.Core.Bool.{Bool, true, false}
-use mathlib.Core.Option.{some}
+use mathlib.Core.Option.{Option, none, some}
 use mathlib.Core.List.{List, [], ◌∷◌, ◌++◌, map, append_assoc, append-nil}
 use Prim.Native.Nat.{ℕ, zero, suc, ◌+◌, ◌*◌, ◌≤◌, ◌<◌}
 use native.Mathlib.Numerals.{add-one}
@@ -13,18 +15,21 @@ use native.Mathlib.Omega.{arith}
 use lib.IntN.{ℤ}
 use lib.ListN.{length, get_or, take, drop, set, length-append, drop_of_length-le}
 use lib.Seq.{drop-cons, sets, sets-eq}
+use borrow.Author.Tests.{eqb-true}
 use mir.Syntax.{w32}
 use mir.Val.{SFits, to_z, of_z}
 use mir.ValLaws.{to_z-of_z}
 use Rattle.std.proofs.lemmas.List.{get_or_default}
 use Rattle.std.proofs.lemmas.List.Edits.{map_over_more}
 use Rattle.theory.specs.Letters.{usual}
-use Rattle.theory.specs.Tables.{absent, cell, end_of}
-use Rattle.edges.specs.Edges.{Sound, is_outside}
-use Rattle.expressions.specs.Places.{place_of, placed, places_from, places_of, AtEdge, AllAtEdge, Readable}
-use Rattle.expressions.specs.Parts.{in_front}
+use Rattle.theory.specs.Tables.{absent, cell, end_of, is_at}
+use Rattle.theory.proofs.PlaceLaws.{passes_fails}
+use Rattle.tables.proofs.LentLaws.{IsSound}
+use Rattle.edges.specs.Edges.{is_outside}
+use Rattle.expressions.specs.Places.{place_of, placed, places_from, places_of, AtEdge, AllAtEdge}
+use Rattle.expressions.specs.Parts.{is_home, in_front}
 use Rattle.expressions.proofs.SignLaws.{read_back}
-use Rattle.expressions.proofs.PlaceLaws.{end_step, points_of, letter_in, placed_few, placed_one, placed_none}
+use Rattle.expressions.proofs.PlaceLaws.{end_step, letter_in, placed_few, placed_one, placed_none}
 
 pub record Walk (n N : ℕ) (t word : List ℕ) (i v at : ℕ) : Type 0 where
   pub done : List ℤ
@@ -34,10 +39,25 @@ pub record Walk (n N : ℕ) (t word : List ℕ) (i v at : ℕ) : Type 0 where
   pub counted : at ≡ length done
   pub few : at ≤ i
 
-module _ {n N : ℕ} {t word : List ℕ} (R : Readable n N t word) where
+pub home_end : (n N : ℕ) (t w : List ℕ) → is_home n N t w ≡ true → end_of (cell n N t) 0 w ≡ some 0
+unfolding is_home
+home_end n N t w e = at (end_of (cell n N t) 0 w) e
+  where
+    at : (o : Option ℕ) → is_at 0 o ≡ true → o ≡ some 0
+    at none g = passes_fails g refl
+    at (some v) g = ap some (eqb-true v 0 g)
+
+module _ {n N : ℕ} {t word : List ℕ} (S : IsSound n N t) (home : is_home n N t word ≡ true) where
   pub walk_first : Walk n N t word 0 0 0
   walk_first =
-      record { done = []; here = (points_of R.0).0; goes = R.1; rest = refl; counted = refl; few = omega arith }
+      record {
+        done = [];
+        here = omega (arith, S.lent.based);
+        goes = home_end n N t word home;
+        rest = refl;
+        counted = refl;
+        few = omega arith;
+      }
 
   module _ {i v at : ℕ} (h : Walk n N t word i v at) where
     module _ (l : i < length word) where
@@ -57,7 +77,7 @@ module _ {n N : ℕ} {t word : List ℕ} (R : Readable n N t word) where
       walk_there e z = step.0 (sym e ∙ z)
 
       pub walk_in : (v < N) × (get_or word i 0 < 2 * n) × (cell n N t v (get_or word i 0) < N)
-      walk_in = letter_in R.0 v (get_or word i 0) step.0
+      walk_in = letter_in S v (get_or word i 0) step.0
 
       places_next : places_of n N t word ≡ (h.done ++ placed n N t v (get_or word i 0)) ++ places_from n N t (cell n N t v (get_or word i 0)) (drop (suc i) word)
       unfolding places_from
@@ -85,19 +105,19 @@ module _ {n N : ℕ} {t word : List ℕ} (R : Readable n N t word) where
             goes = rw (add-one i, e) step.1;
             rest = rw (add-one i, e) places_next;
             counted = a ∙ ap (λ k. k + length (placed n N t v (get_or word i 0))) h.counted ∙ sym (length-append h.done (placed n N t v (get_or word i 0)));
-            few = omega (arith, h.few, placed_few R.0 v (get_or word i 0));
+            few = omega (arith, h.few, placed_few S v (get_or word i 0));
           }
 
       -- an edge that no path uses is counted, another not
       pub walk_crossed : {x : ℕ} {b : Bool} → x ≡ cell n N t v (get_or word i 0) → b ≡ is_outside (cell n N t) N (usual n) v (get_or word i 0) → b ≡ true
           → Walk n N t word (i + 1) x (at + 1)
       walk_crossed e o b =
-          walk_turn e (ap (λ k. at + k) (sym (ap length (placed_one R.0 v (get_or word i 0) (sym o ∙ b)))))
+          walk_turn e (ap (λ k. at + k) (sym (ap length (placed_one S v (get_or word i 0) (sym o ∙ b)))))
 
       pub walk_passed : {x : ℕ} {b : Bool} → x ≡ cell n N t v (get_or word i 0) → b ≡ is_outside (cell n N t) N (usual n) v (get_or word i 0) → b ≡ false
           → Walk n N t word (i + 1) x at
       walk_passed e o b =
-          walk_turn e (let z : at ≡ at + 0 = omega arith in z ∙ ap (λ k. at + k) (sym (ap length (placed_none R.0 v (get_or word i 0) (sym o ∙ b)))))
+          walk_turn e (let z : at ≡ at + 0 = omega arith in z ∙ ap (λ k. at + k) (sym (ap length (placed_none S v (get_or word i 0) (sym o ∙ b)))))
 
     -- all letters were read
     all_done : length word ≤ i → h.done ≡ places_of n N t word
@@ -121,10 +141,10 @@ sets_append (a ∷ k) l i out =
     sets_append k l (suc i) (set out i a)
     ∙ ap (λ j. sets (sets (set out i a) (suc i) k) j l) (let z : suc i + length k ≡ i + suc (length k) = omega arith in z)
 
-module _ {n N : ℕ} {t word : List ℕ} {out₀ : List ℤ} (R : Readable n N t word) where
+module _ {n N : ℕ} {t word : List ℕ} {out₀ : List ℤ} (S : IsSound n N t) (home : is_home n N t word ≡ true) where
   pub writing_first : Writing n N t word out₀ 0 0 0 out₀
   unfolding walk_first
-  writing_first = record { walk = walk_first R; cells = refl }
+  writing_first = record { walk = walk_first S home; cells = refl }
 
   module _ {i v at : ℕ} {out : List ℤ} (h : Writing n N t word out₀ i v at out) where
     pub writing_turn : {x at' : ℕ} {out' : List ℤ} → i < length word → x ≡ cell n N t v (get_or word i 0) → at' ≡ at + length (placed n N t v (get_or word i 0))
@@ -132,7 +152,7 @@ module _ {n N : ℕ} {t word : List ℕ} {out₀ : List ℤ} (R : Readable n N t
     unfolding walk_turn
     writing_turn l e a s =
         record {
-          walk = walk_turn R h.walk l e a;
+          walk = walk_turn S home h.walk l e a;
           cells =
               s
               ∙ ap (λ o. sets o at (placed n N t v (get_or word i 0))) h.cells
@@ -144,33 +164,28 @@ module _ {n N : ℕ} {t word : List ℕ} {out₀ : List ℤ} (R : Readable n N t
     pub writing_done : length word ≤ i → length (places_of n N t word) ≤ length out₀ → out ≡ in_front (places_of n N t word) out₀
     writing_done l room =
         h.cells
-        ∙ ap (sets out₀ 0) (all_done R h.walk l)
+        ∙ ap (sets out₀ 0) (all_done S home h.walk l)
         ∙ sets-eq (places_of n N t word) out₀ 0 (omega (arith, room))
         ∙ ap (λ k. places_of n N t word ++ drop k out₀)
         (let z : 0 + length (places_of n N t word) ≡ length (places_of n N t word) = omega arith in z)
 
 -- ── One place ──
 
-module _ {n N : ℕ} {t : List ℕ} (v y at : ℕ) (out : List ℤ) where
-  -- nothing is written for an edge that a path uses
-  pub place_passed : Sound n N t → {b : Bool} → b ≡ is_outside (cell n N t) N (usual n) v y → b ≡ false
-      → (at ≡ at + length (placed n N t v y)) × (out ≡ sets out at (placed n N t v y))
-  place_passed S e f =
-      let p = placed_none S v y (sym e ∙ f) in
-      ((let z : at ≡ at + 0 = omega arith in z) ∙ ap (λ l. at + length l) (sym p), ap (sets out at) (sym p))
+-- nothing is written for an edge that a path uses, and the place of another is
+module _ {n N : ℕ} {t : List ℕ} (S : IsSound n N t) (v y at : ℕ) {b : Bool} (e : b ≡ is_outside (cell n N t) N (usual n) v y) where
+  pub next_passed : b ≡ false → at ≡ at + length (placed n N t v y)
+  next_passed f = omega (arith, ap length (placed_none S v y (sym e ∙ f)))
 
-  -- the place of another is
-  pub place_stored : Sound n N t → {b : Bool} {x : ℕ} {z : ℤ} → b ≡ is_outside (cell n N t) N (usual n) v y → b ≡ true → x ≡ cell n N t v y → SFits w32 z
-      → z ≡ place_of n v y x → (at + 1 ≡ at + length (placed n N t v y)) × (set out at (to_z w32 (of_z w32 z)) ≡ sets out at (placed n N t v y))
-  place_stored S {b} {x} {z} e f h held g =
-      let p = placed_one S v y (sym e ∙ f) in (
-        ap (λ l. at + length l) (sym p),
-        ap (set out at) (to_z-of_z w32 z held ∙ g ∙ ap (place_of n v y) h) ∙ ap (sets out at) (sym p),
-      )
+  pub place_passed : (out : List ℤ) → b ≡ false → out ≡ sets out at (placed n N t v y)
+  place_passed out f = ap (sets out at) (sym (placed_none S v y (sym e ∙ f)))
 
-  -- there is room for it
-  pub place_room : Sound n N t → {b : Bool} → b ≡ is_outside (cell n N t) N (usual n) v y → b ≡ true → at + length (placed n N t v y) ≤ length out → at < length out
-  place_room S e f h = omega (arith, ap length (placed_one S v y (sym e ∙ f)))
+  pub next_stored : b ≡ true → at + 1 ≡ at + length (placed n N t v y)
+  next_stored f = omega (arith, ap length (placed_one S v y (sym e ∙ f)))
+
+  pub place_stored : (out : List ℤ) {x : ℕ} {z : ℤ} → b ≡ true → x ≡ cell n N t v y → SFits w32 z → z ≡ place_of n v y x
+      → set out at (to_z w32 (of_z w32 z)) ≡ sets out at (placed n N t v y)
+  place_stored out {x} {z} f h held g =
+      ap (set out at) (to_z-of_z w32 z held ∙ g ∙ ap (place_of n v y) h) ∙ ap (sets out at) (sym (placed_one S v y (sym e ∙ f)))
 
 -- ── Numbers in the places' stead ──
 

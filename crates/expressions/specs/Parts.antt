@@ -1,15 +1,14 @@
 -- What the parts of `express` say of the query's reduced word, cited by their contracts.
 --   is_home n N t w  == the word leads from the base to the base
 --   notes_of n N t w == the signed numbers noted along the word, read from the base
---   Marked          <-> the first 2 × marks cells hold the marks
 --   marked_work      == the marks in the first cells, the others as they were
 --   WordOutcome     <-> the answer, the output, and the work cells: with marks where numbers were written, else as they were
 -- Assumes nothing.
-use Rattle.std.specs.Prelude.{◌≡◌, Bool, cond, List, ◌++◌, ℕ, ◌*◌, ◌≤◌, ltb, ℤ, length, take, drop}
+use Rattle.std.specs.Prelude.{◌≡◌, Bool, cond, List, ◌++◌, ℕ, ◌*◌, ltb, ℤ, length, drop}
 use Rattle.theory.specs.Letters.{usual}
 use Rattle.theory.specs.Tables.{cell, end_of, is_at}
 use Rattle.theory.specs.Basis.{crossings}
-use Rattle.edges.specs.Edges.{Sound, marks_of}
+use Rattle.edges.specs.Edges.{marks_of}
 use Rattle.std.specs.declared.option.Option.{Option}
 use Rattle.std.specs.declared.option.Option.TheVariants.{None, Some}
 use Rattle.std.specs.declared.result.Result.{Result}
@@ -27,12 +26,6 @@ notes_of n N t w = crossings (cell n N t) N (usual n) 0 w
 -- the first k numbers, in front of what stands behind them
 abbrev pub in_front : List ℤ → List ℤ → List ℤ
 in_front ks out = ks ++ drop (length ks) out
-
-pub record Marked (n N : ℕ) (t work : List ℕ) (marks : ℕ) : Type 0 where
-  pub sound : Sound n N t
-  pub room : 2 * marks ≤ length work
-  pub few : marks ≤ 1048576
-  pub marked : take (2 * marks) work ≡ marks_of (cell n N t) N (usual n) marks marks
 
 abbrev pub word_answer : ℕ → ℕ → List ℕ → List ℕ → ℕ → Result (Option ℕ) Refusal
 word_answer n N t w space =

@@ -5,16 +5,14 @@
 --   places_from, places_of == the places of a word read from v, from the base
 --   numbered n N t z     == the signed number, in the basis, of the edge at a signed place
 --   AtEdge, AllAtEdge   <-> a place, every place of some, is that of an edge outside the paths
---   Readable            <-> the table is lent and canonical, and the word leads from the base to the base
 -- A place holds in 32 bits what a number will replace: so the table is swept for marks once, not once a letter. Assumes nothing.
 use Rattle.std.specs.Prelude.{◌≡◌, Bool, true, false, cond, List, [], ◌∷◌, ◌++◌, ℕ, suc, ◌+◌, ◌-◌, ◌*◌, ◌/◌, ◌%◌, ◌≤◌, ◌<◌, ℤ, pos, negsuc, neg_ℤ, nat_abs}
-use Rattle.std.proofs.Math.Option.{some}
 use Rattle.theory.specs.Words.{inv}
 use Rattle.theory.specs.Letters.{usual}
-use Rattle.theory.specs.Tables.{cell, end_of}
+use Rattle.theory.specs.Tables.{cell}
 use Rattle.theory.specs.Graphs.{is_lower}
 use Rattle.theory.specs.Basis.{is_edge, outside_edges, number_in}
-use Rattle.edges.specs.Edges.{Sound, is_outside}
+use Rattle.edges.specs.Edges.{is_outside}
 
 abbrev pub signed_by : Bool → ℕ → ℤ
 signed_by true k = neg_ℤ (pos k)
@@ -52,6 +50,3 @@ pub record AtEdge (n N : ℕ) (t : List ℕ) (z : ℤ) : Type 0 where
 abbrev pub AllAtEdge : ℕ → ℕ → List ℕ → List ℤ → Type 0
 AllAtEdge n N t [] = Unit {0}
 AllAtEdge n N t (z ∷ zs) = AtEdge n N t z × AllAtEdge n N t zs
-
-abbrev pub Readable : ℕ → ℕ → List ℕ → List ℕ → Type 0
-Readable n N t w = Sound n N t × (end_of (cell n N t) 0 w ≡ some 0)

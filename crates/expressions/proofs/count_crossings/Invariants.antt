@@ -4,4 +4,4 @@ use Rattle.expressions.proofs.WalkTurn.{Walk}
 use Rattle.expressions.proofs.count_crossings.Given as goal
 
 abbrev pub invariant-loop-y : goal.invariant-loop-y
-invariant-loop-y l = Walk l.s.n l.s.points l.table l.word l.y-index l.v l.found
+invariant-loop-y l = Walk l.t.n l.t.points l.t.cells.now l.word l.y-index l.v l.found

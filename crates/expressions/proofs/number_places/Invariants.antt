@@ -6,4 +6,4 @@ use Rattle.expressions.proofs.WalkTurn.{changed}
 use Rattle.expressions.proofs.number_places.Given as goal
 
 abbrev pub invariant-loop-z : goal.invariant-loop-z
-invariant-loop-z l = l.z-items ≡ changed (numbered l.s.n l.s.points l.table) l.z-index l.fn.places
+invariant-loop-z l = l.z-items ≡ changed (numbered l.t.n l.t.points l.t.cells.now) l.z-index l.fn.places

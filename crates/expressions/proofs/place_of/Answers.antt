@@ -11,13 +11,13 @@ pub returns-then-y-eq0 : goal.returns-then-y-eq0
 returns-then-y-eq0 c = record { place = to_z-of_z w32 _ (record { sfits = c.signed.type_inv }) ∙ c.signed.ensures.signed ∙ place_forth _ _ _ _ c.if-y-eq0.true }
 
 pub overflow_add-x : goal.overflow_add-x
-overflow_add-x c = omega (arith, c.inverse.ensures.inverse, place_small _ _ _ _ c.requires.0 c.requires.1 c.requires.3 (inverse_in _ _ c.requires.4))
+overflow_add-x c = omega (arith, c.inverse.ensures.inverse, place_small c.args.t.now.lent c.requires.end (inverse_in _ _ c.requires.letter))
 
 pub overflow_add-x-2 : goal.overflow_add-x-2
-overflow_add-x-2 c = omega (arith, c.inverse.ensures.inverse, place_small _ _ _ _ c.requires.0 c.requires.1 c.requires.3 (inverse_in _ _ c.requires.4))
+overflow_add-x-2 c = omega (arith, c.inverse.ensures.inverse, place_small c.args.t.now.lent c.requires.end (inverse_in _ _ c.requires.letter))
 
 pub signed-requires-2 : goal.signed-requires-2
-signed-requires-2 c = omega (arith, c.inverse.ensures.inverse, place_small _ _ _ _ c.requires.0 c.requires.1 c.requires.3 (inverse_in _ _ c.requires.4))
+signed-requires-2 c = omega (arith, c.inverse.ensures.inverse, place_small c.args.t.now.lent c.requires.end (inverse_in _ _ c.requires.letter))
 
 pub returns : goal.returns
 returns c = record { place = to_z-of_z w32 _ (record { sfits = c.signed-2.type_inv }) ∙ c.signed-2.ensures.signed ∙ place_back_lem _ _ _ _ c.if-y-eq0.false c.inverse.ensures.inverse }

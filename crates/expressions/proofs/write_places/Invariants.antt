@@ -4,4 +4,4 @@ use Rattle.expressions.proofs.WalkTurn.{Writing}
 use Rattle.expressions.proofs.write_places.Given as goal
 
 abbrev pub invariant-loop-y : goal.invariant-loop-y
-invariant-loop-y l = Writing l.s.n l.s.points l.table l.word l.initial.out l.y-index l.v l.at l.out
+invariant-loop-y l = Writing l.t.n l.t.points l.t.cells.now l.word l.initial.out l.y-index l.v l.at l.out
