@@ -2,7 +2,7 @@
 --   number_absent, number_point : the number of a cell
 --   size_few, head_few          : at most five bytes a number
 --   table_numbers, head_sized   : a table's file is its head and its cells
---   savable                     : the sizes of a table that is not refused
+--   savable                     : a table that is not refused is lent
 -- Assumes nothing.
 use mathlib.Core.Path.{◌≡◌, sym, ◌∙◌, ap}
 use mathlib.Core.Bool.{not}
@@ -17,11 +17,11 @@ use Rattle.theory.specs.Files.{number_limit, number_bytes, numbers_bytes, cell_n
 use Rattle.theory.specs.Refusals.{is_alphabet, refused_if}
 use Rattle.theory.specs.Tables.{absent}
 use Rattle.theory.specs.TableRefusals.{is_lent, check_refusal}
-use Rattle.theory.proofs.RefusalLaws.{alphabet_in}
-use Rattle.theory.proofs.TableRefusalLaws.{else_none, unrefused, lent_in}
+use Rattle.theory.proofs.TableRefusalLaws.{else_none, unrefused}
+use Rattle.tables.specs.Lent.{IsLent}
+use Rattle.tables.proofs.LentLaws.{tested_lent}
 use Rattle.numbers.specs.Splices.{WrittenAt}
 use Rattle.numbers.proofs.NumberLaws.{length_small}
-use Rattle.saves.specs.Runs.{Savable}
 use Rattle.saves.proofs.RunLaws.{numbers_append, numbers_few, numbers_more, numbers_none, front_room, back_room, both_written}
 
 -- ── A cell ──
@@ -60,14 +60,12 @@ table_sized n N count head size t e a b =
 
 -- ── The sizes ──
 
-pub savable : (n N : ℕ) (t : List ℕ) → check_refusal n N t ≡ none → Savable n N (length t)
+pub savable : (n N : ℕ) (t : List ℕ) → check_refusal n N t ≡ none → IsLent n N t
 unfolding check_refusal
 savable n N t e =
     let a = else_none (refused_if (not (is_alphabet n)) 1 0) _ e in
     let b = else_none (refused_if (not (is_lent n N (length t))) 6 0) _ a.1 in
-    let letters = alphabet_in n (not-false _ (unrefused (not (is_alphabet n)) 1 0 a.0)) in
-    let lent = lent_in n N (length t) (not-false _ (unrefused (not (is_lent n N (length t))) 6 0 b.0)) in
-    (letters.1, lent.1, lent.2)
+    tested_lent (not-false _ (unrefused (not (is_alphabet n)) 1 0 a.0)) (not-false _ (unrefused (not (is_lent n N (length t))) 6 0 b.0))
 
 -- ── Head and cells, written ──
 

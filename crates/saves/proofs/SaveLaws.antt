@@ -1,7 +1,7 @@
 -- What saving says, on plain values: a refusal of what is saved, 9, or the file (`specs/Saves`).
 --   early_refused, short_refused, all_written : the three outcomes, for any file; room_held : what is written has room
 --   table_short, table_room, table_written    : a table that `check` does not refuse; list_short, list_room, list_written : a list
---   check_refused, check_fine                 : a table, by what `check` says; scan_refused, scan_fine : a list, by what `scan` says
+--   table_refused, table_fine                 : a table, by what `check` says of it; scan_refused, scan_fine : a list, by what `scan` says
 -- Assumes nothing.
 use mathlib.Core.Path.{◌≡◌, refl, sym, ◌∙◌, ap}
 use mathlib.Core.Bool.{true}
@@ -17,15 +17,16 @@ use Rattle.std.specs.declared.result.Result.TheVariants.{Ok, Err}
 use Rattle.theory.specs.Files.{table_file, list_file}
 use Rattle.theory.specs.Letters.{words_of}
 use Rattle.theory.specs.Refusals.{Refusal as FirstCause, or_else, text_refusal}
-use Rattle.theory.specs.TableRefusals.{check_refusal}
+use Rattle.theory.specs.TableRefusals.{cell_refusal, check_refusal}
 use Rattle.theory.proofs.TableRefusalLaws.{unrefused}
 use Rattle.refusals.specs.declared.Cause.TheVariants.{Output}
 use Rattle.refusals.specs.declared.Refusal.{Refusal}
 use Rattle.refusals.specs.Given.{unless, unless_short}
 use Rattle.refusals.proofs.UnlessLaws.{unless_ok, unless_err, ok_unless, short_unless}
 use Rattle.refusals.proofs.StageLaws.{err_any, err_first}
-use Rattle.tables.specs.declared.Figures.{Figures}
+use Rattle.tables.specs.Lent.{IsLent}
 use Rattle.tables.specs.Checks.{figures_as, checked_as}
+use Rattle.tables.proofs.LentLaws.{lent_alphabet, lent_size}
 use Rattle.numbers.specs.Splices.{spliced, WrittenAt}
 use Rattle.saves.specs.Saves.{short_refusal, out_for, SaveOutcome, save_table_refusal, SaveTableOutcome, save_list_refusal, SaveListOutcome}
 
@@ -89,13 +90,13 @@ module _ (n N : ℕ) (t out : List ℕ) where
       unfolding save_table_refusal
       table_written w = all_written (table_file n N t) out _ e is s w
 
-  pub check_refused : {r : Refusal} → Err r ≡ checked_as n N t → SaveTableOutcome n N t out (Err r) out
+  pub table_refused : {r : Refusal} → Err r ≡ checked_as n N t → SaveTableOutcome n N t out (Err r) out
   unfolding save_table_refusal checked_as
-  check_refused e = early_refused (table_file n N t) out _ (figures_as n N t) e
+  table_refused e = early_refused (table_file n N t) out _ (figures_as n N t) e
 
-pub check_fine : (n N : ℕ) (t : List ℕ) {f : Figures} → Ok f ≡ checked_as n N t → check_refusal n N t ≡ none
-unfolding checked_as
-check_fine n N t e = (unless_ok (check_refusal n N t) (figures_as n N t) e).0
+pub table_fine : {n N : ℕ} {t : List ℕ} → IsLent n N t → cell_refusal n N t ≡ none → check_refusal n N t ≡ none
+unfolding check_refusal
+table_fine L e = rw (lent_alphabet L, lent_size L, e)
 
 -- ── Lists ──
 

@@ -76,11 +76,11 @@ table_file_one n N m M t s ct cs et es f =
     let xs : List ℕ = map cell_number (take (N * (2 * n)) t) in
     let ys : List ℕ = map cell_number (take (M * (2 * m)) s) in
     let a = number_one 1 1 (numbers_bytes (n ∷ N ∷ xs)) (numbers_bytes (m ∷ M ∷ ys)) (omega arith) (omega arith) f in
-    let b = number_one n m (numbers_bytes (N ∷ xs)) (numbers_bytes (M ∷ ys)) (omega (arith, x.0)) (omega (arith, y.0)) a.1 in
-    let c = number_one N M (numbers_bytes xs) (numbers_bytes ys) (omega (arith, x.1)) (omega (arith, y.1)) b.1 in (
+    let b = number_one n m (numbers_bytes (N ∷ xs)) (numbers_bytes (M ∷ ys)) (omega (arith, x.letters)) (omega (arith, y.letters)) a.1 in
+    let c = number_one N M (numbers_bytes xs) (numbers_bytes ys) (omega (arith, x.points)) (omega (arith, y.points)) b.1 in (
       b.0,
       c.0,
-      cells_one (N * (2 * n)) (M * (2 * m)) t s ct cs x.2 y.2
+      cells_one (N * (2 * n)) (M * (2 * m)) t s ct cs x.cells y.cells
           (ap (λ k. N * (2 * k)) b.0 ∙ ap (λ k. k * (2 * m)) c.0) c.1,
     )
 

@@ -1,13 +1,9 @@
 -- What the parts of saving take and write, cited by their contracts.
---   Savable n N cells   <-> the sizes of a table that is not refused
 --   word_run w           == the numbers of a word in a file of kind 2: its length, then its letters
 --   SavableList n bytes <-> the sizes of a list that is not refused
 -- Assumes nothing.
-use Rattle.std.specs.Prelude.{List, ◌∷◌, ℕ, ◌*◌, ◌≤◌, length}
-use Rattle.theory.specs.Refusals.{point_limit, text_limit}
-
-abbrev pub Savable : ℕ → ℕ → ℕ → Type 0
-Savable n N cells = (n ≤ 26) × (N ≤ point_limit) × (N * (2 * n) ≤ cells)
+use Rattle.std.specs.Prelude.{List, ◌∷◌, ℕ, ◌≤◌, length}
+use Rattle.theory.specs.Refusals.{text_limit}
 
 unfoldable pub word_run : List ℕ → List ℕ
 word_run w = length w ∷ w

@@ -6,16 +6,16 @@ ghost use Rattle.std.proofs.Math.Option.{none};
 ghost use Rattle.theory.specs.Files.{cell_number, numbers_bytes, number_limit, table_file, word_numbers, list_file};
 ghost use Rattle.theory.specs.Letters.{word_length, first_word, words_of};
 ghost use Rattle.theory.specs.Refusals.{text_limit, text_refusal};
-ghost use Rattle.theory.specs.TableRefusals.{check_refusal};
+ghost use Rattle.theory.specs.TableRefusals.{cell_refusal};
 ghost use Rattle.numbers.specs.Kinds.{kind_number};
 ghost use Rattle.numbers.specs.Splices.{WrittenAt};
-ghost use Rattle.saves.specs.Runs.{Savable, word_run, SavableList};
+ghost use Rattle.saves.specs.Runs.{word_run, SavableList};
 ghost use Rattle.saves.specs.Saves.{SaveTableOutcome, SaveListOutcome};
 
 use cells::ABSENT;
 use numbers::Kind;
 use refusals::{Cause, Refusal};
-use tables::Subgroup;
+use tables::{Lent, Table};
 
 // The number of a cell: 0 for absent, otherwise the point + 1.
 fn number_of(x: u32) -> u64
@@ -70,41 +70,39 @@ fn write_head(out: &mut [u8], kind: Kind, n: u64, count: u64) -> usize
 }
 
 // The bytes of a table's file.
-fn table_size(s: Subgroup, table: &[u32]) -> usize
-    requires { Savable s.n s.points (length table.now) }
-    ensures size { result ≡ length (table_file s.n s.points table.now) }
+fn table_size(t: &Lent) -> usize
+    ensures size { result ≡ length (table_file t.now.n t.now.points t.now.cells.now) }
 {
-    let count = tables::cell_count(s);
-    let head = head_size(Kind::Table, s.n, s.points);
-    head + cells_size(&table[..count])
+    let head = head_size(Kind::Table, t.n, t.points);
+    head + cells_size(&t.cells[..t.cell_count()])
 }
 
 // Writes a table's file.
-fn write_table(s: Subgroup, table: &[u32], out: &mut [u8]) -> usize
-    requires { Savable s.n s.points (length table.now) × (length (table_file s.n s.points table.now) ≤ length out.old) }
-    ensures written { WrittenAt 0 (table_file s.n s.points table.now) out.old result out.new }
+fn write_table(t: &Lent, out: &mut [u8]) -> usize
+    requires room { length (table_file t.now.n t.now.points t.now.cells.now) ≤ length out.old }
+    ensures written { WrittenAt 0 (table_file t.now.n t.now.points t.now.cells.now) out.old result out.new }
 {
-    let count = tables::cell_count(s);
-    let at = write_head(out, Kind::Table, s.n, s.points);
-    write_cells(&table[..count], out, at)
+    let at = write_head(out, Kind::Table, t.n, t.points);
+    write_cells(&t.cells[..t.cell_count()], out, at)
 }
 
 // Saves a canonical table, or refuses: 9. The length is known before anything is written.
-fn save_checked(s: Subgroup, table: &[u32], out: &mut [u8]) -> Result<u64, Refusal>
-    requires { check_refusal s.n s.points table.now ≡ none }
-    ensures outcome { SaveTableOutcome s.n s.points table.now out.old result out.new }
+fn save_checked(t: &Lent, out: &mut [u8]) -> Result<u64, Refusal>
+    requires sound { cell_refusal t.now.n t.now.points t.now.cells.now ≡ none }
+    ensures outcome { SaveTableOutcome t.now.n t.now.points t.now.cells.now out.old result out.new }
 {
-    let needed = table_size(s, table);
+    let needed = table_size(t);
     refusals::check_room(Cause::Output, needed as u64, out.len() as u64)?;
-    Ok(write_table(s, table, out) as u64)
+    Ok(write_table(t, out) as u64)
 }
 
 // Saves a table handed in as a file of kind 1, or refuses: 1, 6, 8, 9.
-pub fn save_table(s: Subgroup, table: &[u32], out: &mut [u8]) -> Result<u64, Refusal>
-    ensures outcome { SaveTableOutcome s.n s.points table.now out.old result out.new }
+pub fn save_table(t: &Table, out: &mut [u8]) -> Result<u64, Refusal>
+    ensures outcome { SaveTableOutcome t.now.n t.now.points t.now.cells.now out.old result out.new }
 {
-    tables::check(s, table)?;
-    save_checked(s, table, out)
+    let lent = t.lend()?;
+    lent.walk()?;
+    save_checked(&lent, out)
 }
 
 // The bytes that the words of a list take: each its length's, and one for each letter.
@@ -114,6 +112,7 @@ fn words_size(list: &[u8]) -> usize
 {
     let mut size: usize = 0;
     let mut at: usize = 0;
+    // From word to word, each handed on where it starts: no index is counted, and no slice iterator says `next_start`.
     while at < list.len() {
         let read = words::word_length(&list[at..]);
         size += numbers::number_size(read as u64) + read;
@@ -151,6 +150,7 @@ fn write_words(list: &[u8], out: &mut [u8], at: usize) -> usize
 {
     let mut p = at;
     let mut i: usize = 0;
+    // From word to word, each handed on where it starts: no index is counted, and no slice iterator says `next_start`.
     while i < list.len() {
         p = write_word(&list[i..], out, p);
         i = lists::next_start(list, i);

@@ -3,7 +3,7 @@
 --   fill_sound, fill_faulty : what the walk says of the written table, in the words of `by_fault`
 --   cells_whole, cells_filled : what `read_cells` says of a run that was read through; read_missing, read_points : the answers of `read_table`
 -- Assumes nothing.
-use mathlib.Core.Path.{◌≡◌, refl, sym, ◌∙◌, ap, subst, fun_ext}
+use mathlib.Core.Path.{◌≡◌, refl, sym, ◌∙◌, ap, fun_ext}
 use mathlib.Core.Bool.{Bool, true, false, cond, true≢false}
 use mathlib.Core.Option.{Option, none, some}
 use mathlib.Core.List.{List, ◌++◌}
@@ -132,9 +132,6 @@ skipped_behind n N file (whole xs p) q e =
     (tt, ap (λ q. cond (ltb q (length file)) (refused (record { number = 12; place = q })) (by_fault N (cells_of (whole xs p)) (cell_refusal n N (cells_of (whole xs p))))) f)
 
 -- the same run, for the count that the code holds
-pub whole_count : (file : List ℕ) (at count k : ℕ) → count ≡ k → Whole (run_of file at k) → Whole (run_of file at count)
-whole_count file at count k e w = subst (λ j. Whole (run_of file at j)) (sym e) w
-
 pub skip_count : (file : List ℕ) (at : ℕ) {count k : ℕ} → count ≡ k → skipped_as (numbers_at 4294967296 file at count) ≡ skipped_as (run_of file at k)
 unfolding run_of
 skip_count file at e = ap (λ j. skipped_as (numbers_at 4294967296 file at j)) e

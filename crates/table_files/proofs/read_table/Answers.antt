@@ -12,7 +12,7 @@ returns-in_err-number c =
 pub read_cells-requires : goal.read_cells-requires
 read_cells-requires c =
     let b = read_behind c.args.n _ c.args.table.now _ c.in_ok-number.number c.in_ok-number.ensures.number c.requires.1 in
-    (c.requires.0, b.0, b.1)
+    record { alphabet = c.requires.0; inside = b.0; here = b.1 }
 
 pub returns : goal.returns
 returns c =
