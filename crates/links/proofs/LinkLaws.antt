@@ -19,17 +19,16 @@ use Rattle.theory.specs.Words.{inv}
 use Rattle.theory.specs.Tables.{absent, Cells, Leads, cell}
 use Rattle.theory.proofs.TableLaws.{cell_here}
 use Rattle.engine.specs.Cells.{put, linked, unlinked}
-use Rattle.engine.specs.Engine.{State, with_cells, joined, moved, far_end}
+use Rattle.engine.specs.Engine.{State, with_cells, united, joined, moved, far_end}
 use Rattle.engine.specs.Work.{Holds}
 use Rattle.engine.proofs.CellLaws.{unlinked_leads}
 use Rattle.engine.proofs.GrowLaws.{joined_free, joined_taken, joined_back}
 use Rattle.engine.proofs.MoveLaws.{moved_none, moved_edge_lem}
 use Rattle.engine.proofs.HoldLaws.{holds_first, holds_set, holds_then, holds_as}
 use Rattle.rooms.specs.declared.Room.{Room}
-use Rattle.rooms.specs.Uniting.{United}
 use Rattle.rooms.specs.WorkCells.{united_work, joined_work, moved_work}
 use Rattle.rooms.specs.Rooms.{state_in, Usable, After}
-use Rattle.rooms.proofs.RoomLaws.{left_first, left_cells, left_united, left_as, left_then, left_lent}
+use Rattle.rooms.proofs.RoomLaws.{left_first, left_cells, left_as, left_then, left_lent}
 use Rattle.links.specs.Links.{InTable, Ends}
 
 module _ {r : Room} {t : List ℕ} {v y : ℕ} (h : InTable r t v y) where
@@ -132,19 +131,19 @@ module _ {r : Room} {table work : List ℕ} {count : ℕ} (h : Usable r table wo
         there = ap (λ l. cell r.n r.rows table b l) (sym f) ∙ sym g ∙ i
 
     -- the cell at a taken
-    pub link_taken : {x m : ℕ} {after : List ℕ} → x ≡ cell r.n r.rows table a y → (x ≡ absent → ⊥)
-        → United work r.made r.rows count x b m after → Joins table after m
+    pub link_taken : {x m : ℕ} {table' after : List ℕ} → x ≡ cell r.n r.rows table a y → (x ≡ absent → ⊥)
+        → After r (λ t. united t x b) (λ t w. united_work r.rows t w x b) table work count table' after m → Joins table' after m
     link_taken {x} e n u =
         left_as (sym (joined_taken s a y b x (sym e, n))) (sym (work_taken r.rows s work a y b x (sym e, n)))
-        (left_united h x b (holds_made a y x e n) k.to u)
+        u
 
     -- the cell at b alone taken
-    pub link_back : {x z back m : ℕ} {after : List ℕ} → x ≡ cell r.n r.rows table a y → x ≡ absent → back ≡ inv y
+    pub link_back : {x z back m : ℕ} {table' after : List ℕ} → x ≡ cell r.n r.rows table a y → x ≡ absent → back ≡ inv y
         → z ≡ cell r.n r.rows table b back → (z ≡ absent → ⊥)
-        → United work r.made r.rows count z a m after → Joins table after m
+        → After r (λ t. united t z a) (λ t w. united_work r.rows t w z a) table work count table' after m → Joins table' after m
     link_back {x} {z} {back} e d f g n u =
         left_as (sym (joined_back s a y b z (sym e ∙ d) there)) (sym (work_back r.rows s work a y b z (sym e ∙ d) there))
-        (left_united h z a (holds_made b back z g n) k.from u)
+        u
       where
         there : Leads s.cells b (inv y) z
         there = (ap (λ l. cell r.n r.rows table b l) (sym f) ∙ sym g, n)

@@ -22,7 +22,8 @@ use Rattle.engine.proofs.DrainLaws.{pending_room}
 use Rattle.rooms.specs.declared.Room.{Room}
 use Rattle.rooms.specs.Uniting.{both_halved, united_cells, United}
 use Rattle.rooms.specs.WorkCells.{united_work}
-use Rattle.rooms.specs.Rooms.{state_in, with_made, Lent, Usable, Plain, Fit, Left, After}
+use Rattle.rooms.specs.declared.Fold.{Fold}
+use Rattle.rooms.specs.Rooms.{state_in, with_made, Lent, Usable, Plain, Fit, Left, After, Kept, Held}
 use Rattle.rooms.proofs.UniteLaws.{Ready, united_state, united_falls, united_length, united_behind}
 
 -- every word is in the subgroup of all words
@@ -183,3 +184,22 @@ module _ {r : Room} {table work : List ℕ} {count : ℕ} (h : Usable r table wo
     where
       root : ℕ → ℕ
       root = (state_in r table work count).root
+
+-- the same lent slices and room, still and after one more step
+pub same_first : {f : Fold} → Kept f f
+same_first = record { table = refl; work = refl; room = refl }
+
+pub same_then : {f g h : Fold} → Kept f g → Kept g h → Kept f h
+same_then a b = record { table = b.table ∙ a.table; work = b.work ∙ a.work; room = b.room ∙ a.room }
+
+-- points may have been made
+pub held_first : {f : Fold} → Held f f
+held_first = record { table = refl; work = refl; room = refl }
+
+pub held_then : {f g h : Fold} → Held f g → Held g h → Held f h
+held_then {f} {g} {h} a b =
+    record { table = b.table ∙ a.table; work = b.work ∙ a.work; room = b.room ∙ ap (λ r. with_made r h.room.made) a.room }
+
+pub held_same : {f g h : Fold} → Held f g → Kept g h → Held f h
+held_same {f} a b =
+    record { table = b.table ∙ a.table; work = b.work ∙ a.work; room = b.room ∙ a.room ∙ ap (λ (r : Room). with_made f.room r.made) (sym b.room) }

@@ -17,6 +17,7 @@ use Rattle.engine.specs.Engine.{State, state_of}
 use Rattle.engine.specs.Stages.{Stage, Roomy}
 use Rattle.engine.specs.Work.{forward_of, pending_of}
 use Rattle.rooms.specs.declared.Room.{Room}
+use Rattle.rooms.specs.declared.Fold.{Fold}
 
 abbrev pub state_in : Room → List ℕ → List ℕ → ℕ → State
 state_in r table work count =
@@ -60,3 +61,24 @@ pub record Left (r : Room) (table work : List ℕ) (s : State) (w table' work' :
 abbrev pub After : Room → (State → State) → (State → List ℕ → List ℕ) → List ℕ → List ℕ → ℕ → List ℕ → List ℕ → ℕ → Type 0
 After r f g table work count table' work' k =
     Left r table work (f (state_in r table work count)) (g (state_in r table work count) work) table' work' k
+
+-- the same lent slices, and the same room
+pub record Kept (f g : Fold) : Type 0 where
+  pub table : g.table.ghost_name ≡ f.table.ghost_name
+  pub work : g.work.ghost_name ≡ f.work.ghost_name
+  pub room : g.room ≡ f.room
+
+abbrev pub UsableIn : Fold → Type 0
+UsableIn f = Usable f.room f.table.now f.work.now f.pending
+
+abbrev pub FitIn : List ℕ → Fold → Type 0
+FitIn hand f = Fit f.room hand f.table.now f.work.now f.pending
+
+abbrev pub AfterIn : (State → State) → (State → List ℕ → List ℕ) → Fold → Fold → Type 0
+AfterIn s w f g = After f.room s w f.table.now f.work.now f.pending g.table.now g.work.now g.pending
+
+-- the same lent slices, and the same room but for the points made
+pub record Held (f g : Fold) : Type 0 where
+  pub table : g.table.ghost_name ≡ f.table.ghost_name
+  pub work : g.work.ghost_name ≡ f.work.ghost_name
+  pub room : g.room ≡ with_made f.room g.room.made

@@ -8,11 +8,20 @@ ghost use Rattle.rooms.specs.Finding.{Found};
 ghost use Rattle.rooms.specs.Uniting.{sent, United};
 
 // What the engine knows of lent cells: n generators, `rows` rows of room, `made` points made.
-#[derive(Clone, Copy)]
+#[derive(Clone, Copy, Debug, PartialEq, Eq)]
 pub struct Room {
     pub n: usize,
     pub rows: usize,
     pub made: usize,
+}
+
+// What is folded: the lent cells, what is known of them, and how many points are pending.
+#[derive(Drop)]
+pub struct Fold<'a> {
+    pub table: &'a mut [u32],
+    pub work: &'a mut [u32],
+    pub room: Room,
+    pub pending: usize,
 }
 
 // Puts x into cell y of a row.
