@@ -1,48 +1,50 @@
 // Draining: the edges of merged points move to their roots until nothing is pending.
 #![tactic(auto)]
 
-ghost use Rattle.std.specs.Prelude.{[], ◌<◌};
+ghost use Rattle.std.specs.Prelude.{[], ◌≡◌, ◌<◌};
 ghost use Rattle.theory.specs.Letters.{usual};
 ghost use Rattle.engine.specs.Engine.{cleared, turned, drained};
-ghost use Rattle.rooms.specs.Rooms.{Fit, After};
+ghost use Rattle.rooms.specs.Rooms.{Kept, FitIn, AfterIn};
 ghost use Rattle.rooms.specs.WorkCells.{cleared_work, turned_work, drained_work};
 ghost use Rattle.drains.specs.Hands.{InHand};
 
-use rooms::Room;
+use rooms::Fold;
 
-// Moves every edge of the point v, which is in hand, to u. Answers the new number of pending points.
-fn clear_row(table: &mut [u32], work: &mut [u32], room: Room, count: usize, v: u32, u: u32) -> usize
-    requires { InHand room table.old work.old count v u }
-    ensures cleared { After room (λ s. cleared s v u (usual room.n)) (λ s w. cleared_work room.rows s w v u (usual room.n)) table.old work.old count table.new work.new result }
+// Moves every edge of the point v, which is in hand, to u.
+fn clear_row(fold: &mut Fold<'_>, v: u32, u: u32)
+    requires { InHand fold.old.room fold.old.table.now fold.old.work.now fold.old.pending v u }
+    ensures kept { Kept fold.old fold.new }
+    ensures cleared { AfterIn (λ s. cleared s v u (usual fold.old.room.n)) (λ s w. cleared_work fold.old.room.rows s w v u (usual fold.old.room.n)) fold.old fold.new }
 {
-    let w = 2 * (room.n as u32);
-    let mut waiting = count;
+    let w = 2 * (fold.room.n as u32);
     for y in 0..w {
-        waiting = links::move_edge(table, work, room, waiting, v, u, y);
+        links::move_edge(fold, v, u, y);
     }
-    waiting
 }
 
 // One turn: the newest pending point is taken off, its root is looked up now, and its edges move there.
-fn turn(table: &mut [u32], work: &mut [u32], room: Room, count: usize) -> usize
-    requires fit { Fit room [] table.old work.old count }
-    requires count_nonzero { 0 < count }
-    ensures turned { After room (turned (usual room.n)) (turned_work room.rows (usual room.n)) table.old work.old count table.new work.new result }
+fn turn(fold: &mut Fold<'_>)
+    requires fit { FitIn [] fold.old }
+    requires count_nonzero { 0 < fold.old.pending }
+    ensures kept { Kept fold.old fold.new }
+    ensures turned { AfterIn (turned (usual fold.old.room.n)) (turned_work fold.old.room.rows (usual fold.old.room.n)) fold.old fold.new }
 {
-    let last = count - 1;
-    let v = work[room.rows + last];
-    let u = rooms::find(work, room.made, v);
-    clear_row(table, work, room, last, v, u)
+    fold.pending -= 1;
+    let room = fold.room;
+    let v = fold.work[room.rows + fold.pending];
+    let u = rooms::find(fold.work, room.made, v);
+    clear_row(fold, v, u);
 }
 
 // Turns until nothing is pending.
-pub fn drain(table: &mut [u32], work: &mut [u32], room: Room, count: usize)
-    requires { Fit room [] table.old work.old count }
-    ensures drained { After room (drained (usual room.n)) (drained_work room.rows (usual room.n)) table.old work.old count table.new work.new 0 }
+pub fn drain(fold: &mut Fold<'_>)
+    requires { FitIn [] fold.old }
+    ensures kept { Kept fold.old fold.new }
+    ensures drained { AfterIn (drained (usual fold.old.room.n)) (drained_work fold.old.room.rows (usual fold.old.room.n)) fold.old fold.new }
+    ensures pending { fold.new.pending ≡ 0 }
 {
-    let mut waiting = count;
     // No `for` fits: a turn may add pending points.
-    while 0 < waiting {
-        waiting = turn(table, work, room, waiting);
+    while 0 < fold.pending {
+        turn(fold);
     }
 }

@@ -15,7 +15,7 @@ use Rattle.theory.specs.Letters.{usual, StandsIn, AllIn}
 use Rattle.theory.specs.Tables.{cell}
 use Rattle.theory.proofs.TableLaws.{length_usual, get_or_usual}
 use Rattle.engine.specs.Roots.{Falls}
-use Rattle.engine.specs.Engine.{State, state_of, joined, grown, chained}
+use Rattle.engine.specs.Engine.{State, state_of, united, joined, grown, chained}
 use Rattle.engine.specs.Stages.{Chainable, Roomy}
 use Rattle.engine.specs.Work.{forward_of, pending_of}
 use Rattle.engine.proofs.WorkLaws.{forward_grown}
@@ -23,10 +23,9 @@ use Rattle.engine.proofs.StageLaws.{joined_kept}
 use Rattle.engine.proofs.ChainLaws.{stage₁, grown_weight, chain_joinable, chain_next}
 use Rattle.engine.proofs.FoldedTable.{usual_closed}
 use Rattle.rooms.specs.declared.Room.{Room}
-use Rattle.rooms.specs.Uniting.{United}
-use Rattle.rooms.specs.WorkCells.{joined_work, chained_work}
+use Rattle.rooms.specs.WorkCells.{united_work, joined_work, chained_work}
 use Rattle.rooms.specs.Rooms.{state_in, with_made, Lent, Usable, Left, After}
-use Rattle.rooms.proofs.RoomLaws.{all_words, plain_stage, left_as, left_then, left_after, left_united, fit_grown, fit_usable}
+use Rattle.rooms.proofs.RoomLaws.{all_words, plain_stage, left_as, left_then, left_after, fit_grown, fit_usable}
 use Rattle.links.specs.Links.{Ends}
 use Rattle.takes.specs.Chains.{word_in, part, Growing, GrownIn, ChainFits, chained_by, chained_cells, ClosedIn}
 
@@ -134,12 +133,12 @@ module _ {r : Room} {table work : List ℕ} {count at b i end : ℕ} (h : ChainF
   Closes l = After r (λ t. chained t at l b) (λ t v. chained_work r.rows t v at l b) table work count
 
   -- no letter is left
-  pub close_none : {k : ℕ} {after : List ℕ} → i ≡ end → United work r.made r.rows count at b k after
-      → ClosedIn r table work count at b i end table after k
+  pub close_none : {k : ℕ} {table' after : List ℕ} → i ≡ end
+      → After r (λ t. united t at b) (λ t v. united_work r.rows t v at b) table work count table' after k
+      → ClosedIn r table work count at b i end table' after k
   unfolding chained chained_work
-  close_none {k} {after} e u =
-      subst (λ l. Closes l table after k) (sym (ap (part (word_in r work) i) (sym e) ∙ part_none (word_in r work) i (omega (arith, long))))
-      (left_united close_usable at b h.chainable.from h.chainable.to u)
+  close_none {k} {table'} {after} e u =
+      subst (λ l. Closes l table' after k) (sym (ap (part (word_in r work) i) (sym e) ∙ part_none (word_in r work) i (omega (arith, long)))) u
 
   -- the letters that are left
   pub first_letter : i < end → part (word_in r work) i end ≡ get_or (word_in r work) i 0 ∷ part (word_in r work) (suc i) end

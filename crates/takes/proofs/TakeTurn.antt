@@ -39,9 +39,6 @@ use Rattle.rooms.specs.WorkCells.{chained_work, taken_work}
 use Rattle.rooms.specs.Rooms.{state_in, with_made, Plain, Fit, Left}
 use Rattle.rooms.proofs.RoomLaws.{all_words, plain_stage, left_as, fit_grown, fit_usable}
 use Rattle.takes.specs.declared.Stop.{Stop}
-use Rattle.takes.specs.declared.Grown.{Grown}
-use Rattle.takes.specs.declared.Circled.{Circled}
-use Rattle.takes.specs.declared.Taken.{Taken}
 use Rattle.takes.specs.Readings.{Readable, FrontOf, BackOf}
 use Rattle.takes.specs.Chains.{word_in, part, ChainFits, chained_by, chained_cells, Chained}
 use Rattle.takes.specs.Takes.{reduced_in, circled_cells, Takeable, circled, CircleOf, TakenIn}
@@ -295,15 +292,15 @@ module _ {r : Room} {text table work : List ℕ} (h : Takeable r text table work
                   (subst₂ (λ m d. Chainable (λ w. Unit {0}) (λ v. []) (usual r.n) (state_in r table work 0) (front c word).point m d) (sym middle_is) (sym back_rest.point) word_chainable));
             }
 
-        pub circle_is : {g : Grown} {table' work' : List ℕ}
-            → Chained r table work₁ 0 f.point b.point f.count end g table' work'
-            → CircleOf r text table work (record { grown = g; left = d.left }) table' work'
-        circle_is {g} {table'} {work'} k =
+        pub circle_is : {made pending : ℕ} {table' work' : List ℕ}
+            → Chained r table work₁ 0 f.point b.point f.count end made pending table' work'
+            → CircleOf r text table work made pending d.left table' work'
+        circle_is {made} {pending} {table'} {work'} k =
             record {
-              made = k.made ∙ ap (λ s. s.made) made_is;
+              made_is = k.made_is ∙ ap (λ s. s.made) made_is;
               letters = e.left;
-              left = subst (λ l. Left (with_made r g.made) table l (circled r text table work)
-                  (circled_cells R (state_in r table work 0) work (first_word text)) table' work' g.count) e₁ (left_as made_is cells_are k.left);
+              leaves = subst (λ l. Left (with_made r made) table l (circled r text table work)
+                  (circled_cells R (state_in r table work 0) work (first_word text)) table' work' pending) e₁ (left_as made_is cells_are k.left);
             }
 
   -- ── The drain ──
@@ -313,32 +310,32 @@ module _ {r : Room} {text table work : List ℕ} (h : Takeable r text table work
   unfolding taken_in
   chained_in = chained_chains all_words (usual_closed r.n) (state_in r table work 0) _ _ _ word_chainable
 
-  module _ {g : Circled} {table' work' : List ℕ} (k : CircleOf r text table work g table' work') where
-    pub drain_asks : Fit (with_made r g.grown.made) [] table' work' g.grown.count
+  module _ {made pending left : ℕ} {table' work' : List ℕ} (k : CircleOf r text table work made pending left table' work') where
+    pub drain_asks : Fit (with_made r made) [] table' work' pending
     drain_asks =
-        fit_grown g.grown.made (omega (arith, k.made, chained_in.made, middle_points c word, h.room))
-        (fit_same refl).lent k.left (plain_stage chained_in.stage) (omega (arith, chained_in.made, chained_in.weighs, h.fit.roomy))
+        fit_grown made (omega (arith, k.made_is, chained_in.made, middle_points c word, h.room))
+        (fit_same refl).lent k.leaves (plain_stage chained_in.stage) (omega (arith, chained_in.made, chained_in.weighs, h.fit.roomy))
 
   -- ── For callers ──
 
-  module _ {g : Taken} {table' work' : List ℕ} (k : TakenIn r text table work g table' work') where
+  module _ {made left : ℕ} {table' work' : List ℕ} (k : TakenIn r text table work made left table' work') where
     -- no more new points than the word's circle has
-    pub taken_points : g.made ≤ r.made + new_points word
-    taken_points = omega (arith, k.made, chained_in.made, middle_points c word)
+    pub taken_points : made ≤ r.made + new_points word
+    taken_points = omega (arith, k.made_is, chained_in.made, middle_points c word)
 
     -- nothing is pending, and the next word may be taken in
-    pub taken_fit : Fit (with_made r g.made) [] table' work' 0
+    pub taken_fit : Fit (with_made r made) [] table' work' 0
     taken_fit =
-        fit_grown g.made (omega (arith, taken_points, h.room)) (fit_same refl).lent k.left
+        fit_grown made (omega (arith, taken_points, h.room)) (fit_same refl).lent k.leaves
         (drained_settles all_words (plain_stage chained_in.stage)).stage
         (drained_roomy all_words (plain_stage chained_in.stage) (omega (arith, chained_in.made, chained_in.weighs, h.fit.roomy)))
 
     pub taken_long : length work' ≡ length work
-    taken_long = k.left.work_same ∙ reduced_long
+    taken_long = k.leaves.work_same ∙ reduced_long
 
     pub taken_rest : drop (3 * R) work' ≡ drop (3 * R) work
     taken_rest =
-        split work' ∙ ap (drop R) (k.left.work_rest ∙ word_cells refl)
+        split work' ∙ ap (drop R) (k.leaves.work_rest ∙ word_cells refl)
         ∙ cells_kept (first_word text) behind_r R (omega (arith, length-first_word text, h.place)) ∙ sym (split work)
       where
         split : (l : List ℕ) → drop (3 * R) l ≡ drop R (drop (2 * R) l)

@@ -13,7 +13,6 @@ use Rattle.engine.specs.Stages.{Chainable}
 use Rattle.rooms.specs.declared.Room.{Room}
 use Rattle.rooms.specs.WorkCells.{joined_work, grown_work, chained_work}
 use Rattle.rooms.specs.Rooms.{state_in, with_made, Fit, Left}
-use Rattle.takes.specs.declared.Grown.{Grown}
 
 abbrev pub word_in : Room → List ℕ → List ℕ
 word_in r work = drop (2 * r.rows) work
@@ -54,7 +53,7 @@ abbrev pub ClosedIn : Room → List ℕ → List ℕ → ℕ → ℕ → ℕ →
 ClosedIn r table work count a b first end =
     Left r table work (chained_by r table work count a b first end) (chained_cells r table work count a b first end)
 
-pub record Chained (r : Room) (table work : List ℕ) (count a b first end : ℕ) (g : Grown) (table' work' : List ℕ) : Type 0 where
-  pub made : g.made ≡ (chained_by r table work count a b first end).made
+pub record Chained (r : Room) (table work : List ℕ) (count a b first end made pending : ℕ) (table' work' : List ℕ) : Type 0 where
+  pub made_is : made ≡ (chained_by r table work count a b first end).made
   pub left
-      : Left (with_made r g.made) table work (chained_by r table work count a b first end) (chained_cells r table work count a b first end) table' work' g.count
+      : Left (with_made r made) table work (chained_by r table work count a b first end) (chained_cells r table work count a b first end) table' work' pending

@@ -13,8 +13,6 @@ use Rattle.engine.specs.Engine.{State, drained, taken_in}
 use Rattle.rooms.specs.declared.Room.{Room}
 use Rattle.rooms.specs.WorkCells.{drained_work, taken_work}
 use Rattle.rooms.specs.Rooms.{state_in, with_made, Fit, Left}
-use Rattle.takes.specs.declared.Circled.{Circled}
-use Rattle.takes.specs.declared.Taken.{Taken}
 
 unfoldable pub reduced_in : ℕ → List ℕ → List ℕ → List ℕ
 reduced_in R u work = take (2 * R) work ++ reduced_cells u (drop (2 * R) work)
@@ -34,16 +32,16 @@ pub record Takeable (r : Room) (part table work : List ℕ) : Type 0 where
 abbrev pub circled : Room → List ℕ → List ℕ → List ℕ → State
 circled r part table work = taken_in (state_in r table work 0) (reduced (first_word part))
 
-pub record CircleOf (r : Room) (part table work : List ℕ) (g : Circled) (table' work' : List ℕ) : Type 0 where
-  pub made : g.grown.made ≡ (circled r part table work).made
-  pub letters : g.left ≡ length (reduced (first_word part))
-  pub left
-      : Left (with_made r g.grown.made) table (reduced_in r.rows (first_word part) work) (circled r part table work)
-      (circled_cells r.rows (state_in r table work 0) work (first_word part)) table' work' g.grown.count
+pub record CircleOf (r : Room) (part table work : List ℕ) (made pending left : ℕ) (table' work' : List ℕ) : Type 0 where
+  pub made_is : made ≡ (circled r part table work).made
+  pub letters : left ≡ length (reduced (first_word part))
+  pub leaves
+      : Left (with_made r made) table (reduced_in r.rows (first_word part) work) (circled r part table work)
+      (circled_cells r.rows (state_in r table work 0) work (first_word part)) table' work' pending
 
-pub record TakenIn (r : Room) (part table work : List ℕ) (g : Taken) (table' work' : List ℕ) : Type 0 where
-  pub made : g.made ≡ (circled r part table work).made
-  pub letters : g.left ≡ length (reduced (first_word part))
-  pub left
-      : Left (with_made r g.made) table (reduced_in r.rows (first_word part) work) (drained (usual r.n) (circled r part table work))
+pub record TakenIn (r : Room) (part table work : List ℕ) (made left : ℕ) (table' work' : List ℕ) : Type 0 where
+  pub made_is : made ≡ (circled r part table work).made
+  pub letters : left ≡ length (reduced (first_word part))
+  pub leaves
+      : Left (with_made r made) table (reduced_in r.rows (first_word part) work) (drained (usual r.n) (circled r part table work))
       (taken_cells r.rows (usual r.n) (state_in r table work 0) work (first_word part)) table' work' 0

@@ -1,41 +1,21 @@
 // Taking one word in: it is reduced, read from the base as far as cells exist, and its middle is chained.
 #![tactic(auto)]
 
-ghost use Rattle.std.specs.Prelude.{◌+◌, ◌≤◌};
+ghost use Rattle.std.specs.Prelude.{◌≡◌, ◌+◌, ◌-◌, ◌≤◌, length, take, drop};
+ghost use Rattle.rooms.specs.Rooms.{Kept, Held};
 ghost use Rattle.theory.specs.Tables.{cell};
 ghost use Rattle.takes.specs.Readings.{Readable, FrontOf, BackOf};
 ghost use Rattle.takes.specs.Chains.{Growing, GrownIn, ChainFits, Chained, ClosedIn};
 ghost use Rattle.takes.specs.Takes.{Takeable, CircleOf, TakenIn};
 
 use cells::ABSENT;
-use rooms::Room;
+use rooms::{Fold, Room};
 
 // Where a reading stopped: the point, and the place in the word.
-#[derive(Clone, Copy)]
+#[derive(Clone, Copy, Debug, PartialEq, Eq)]
 pub struct Stop {
     pub point: u32,
     pub count: usize,
-}
-
-// What has grown: the points made, and the points pending.
-#[derive(Clone, Copy)]
-pub struct Grown {
-    pub made: usize,
-    pub count: usize,
-}
-
-// What building a circle says: what has grown, and the letters of the reduced word.
-#[derive(Clone, Copy)]
-pub struct Circled {
-    pub grown: Grown,
-    pub left: usize,
-}
-
-// What taking a word in says: the points made, and the letters of the reduced word.
-#[derive(Clone, Copy)]
-pub struct Taken {
-    pub made: usize,
-    pub left: usize,
 }
 
 // Reads `word` forward from the base as far as cells exist.
@@ -76,107 +56,98 @@ fn read_back(table: &[u32], word: &[u32], room: Room) -> Stop
     Stop { point: v, count: 0 }
 }
 
-// Makes a point, and joins `at` to it by the i-th letter of the word. Answers the new number of pending points.
-fn grow(table: &mut [u32], work: &mut [u32], room: Room, count: usize, at: u32, i: usize) -> usize
-    requires { Growing room table.old work.old count at i }
-    ensures grown { GrownIn room table.old work.old count at i table.new work.new result }
+// Makes a point, and joins `at` to it by the i-th letter of the word.
+fn grow(fold: &mut Fold<'_>, at: u32, i: usize) -> u32
+    requires { Growing fold.old.room fold.old.table.now fold.old.work.now fold.old.pending at i }
+    ensures held { Held fold.old fold.new }
+    ensures made { fold.new.room.made ≡ fold.old.room.made + 1 }
+    ensures point { result ≡ fold.old.room.made }
+    ensures grown { GrownIn fold.old.room fold.old.table.now fold.old.work.now fold.old.pending at i fold.new.table.now fold.new.work.now fold.new.pending }
 {
-    let made = room.made;
+    let made = fold.room.made;
     let new = made as u32;
-    work[made] = new;
-    let y = work[2 * room.rows + i];
-    let more = Room {
-        made: made + 1,
-        ..room
-    };
-    links::link(table, work, more, count, at, y, new)
+    fold.work[made] = new;
+    fold.room.made = made + 1;
+    let y = fold.work[2 * fold.room.rows + i];
+    links::link(fold, at, y, new);
+    new
 }
 
 // The end of a chain: its last letter, the i-th, joins `at` to b; where no letter is left they are made one.
-fn close(
-    table: &mut [u32],
-    work: &mut [u32],
-    room: Room,
-    count: usize,
-    at: u32,
-    b: u32,
-    i: usize,
-    end: usize,
-) -> usize
-    requires fits { ChainFits room table.old work.old count at b i end }
+fn close(fold: &mut Fold<'_>, at: u32, b: u32, i: usize, end: usize)
+    requires fits { ChainFits fold.old.room fold.old.table.now fold.old.work.now fold.old.pending at b i end }
     requires end_bound { end ≤ i + 1 }
-    ensures closed { ClosedIn room table.old work.old count at b i end table.new work.new result }
+    ensures kept { Kept fold.old fold.new }
+    ensures closed { ClosedIn fold.old.room fold.old.table.now fold.old.work.now fold.old.pending at b i end fold.new.table.now fold.new.work.now fold.new.pending }
 {
     if i == end {
-        return rooms::unite(work, room.made, room.rows, count, at, b);
+        links::unite(fold, at, b);
+        return;
     }
-    let y = work[2 * room.rows + i];
-    links::link(table, work, room, count, at, y, b)
+    let y = fold.work[2 * fold.room.rows + i];
+    links::link(fold, at, y, b);
 }
 
 // Chains the letters first .. end - 1 of the word from a to b, with new points between them.
-fn chain(
-    table: &mut [u32],
-    work: &mut [u32],
-    room: Room,
-    a: u32,
-    b: u32,
-    first: usize,
-    end: usize,
-) -> Grown
-    requires { ChainFits room table.old work.old 0 a b first end }
-    ensures chained { Chained room table.old work.old 0 a b first end result table.new work.new }
+fn chain(fold: &mut Fold<'_>, a: u32, b: u32, first: usize, end: usize)
+    requires fits { ChainFits fold.old.room fold.old.table.now fold.old.work.now fold.old.pending a b first end }
+    requires settled { fold.old.pending ≡ 0 }
+    ensures held { Held fold.old fold.new }
+    ensures chained { Chained fold.old.room fold.old.table.now fold.old.work.now 0 a b first end fold.new.room.made fold.new.pending fold.new.table.now fold.new.work.now }
 {
     // The place of the last letter, or `end` where there is no letter.
     let last = if first < end { end - 1 } else { end };
-    let mut made = room.made;
-    let mut count: usize = 0;
     let mut at = a;
     for i in first..last {
-        count = grow(table, work, Room { made, ..room }, count, at, i);
-        at = made as u32;
-        made += 1;
+        at = grow(fold, at, i);
     }
-    count = close(table, work, Room { made, ..room }, count, at, b, last, end);
-    Grown { made, count }
+    close(fold, at, b, last, end);
 }
 
-// Builds the circle of the word at the start of `part`, as far as it is not there.
-fn circle(table: &mut [u32], work: &mut [u32], room: Room, part: &[u8]) -> Circled
-    requires { Takeable room part.now table.old work.old }
-    ensures circle { CircleOf room part.now table.old work.old result table.new work.new }
+// How far the word in the work cells first .. end - 1 is read.
+fn front_of(fold: &Fold<'_>, first: usize, end: usize) -> Stop
+    requires inside { (first ≤ end) × (end ≤ length fold.now.work.now) }
+    requires readable { Readable fold.now.room fold.now.table.now (take (end - first) (drop first fold.now.work.now)) }
+    ensures front { FrontOf (cell fold.now.room.n fold.now.room.rows fold.now.table.now) (take (end - first) (drop first fold.now.work.now)) result }
 {
-    let at = 2 * room.rows;
-    let word = words::reduce(part, &mut work[at..]);
+    read_front(fold.table, &fold.work[first..end], fold.room)
+}
+
+// How far it is read backward.
+fn back_of(fold: &Fold<'_>, first: usize, end: usize) -> Stop
+    requires inside { (first ≤ end) × (end ≤ length fold.now.work.now) }
+    requires readable { Readable fold.now.room fold.now.table.now (take (end - first) (drop first fold.now.work.now)) }
+    ensures back { BackOf (cell fold.now.room.n fold.now.room.rows fold.now.table.now) (take (end - first) (drop first fold.now.work.now)) result }
+{
+    read_back(fold.table, &fold.work[first..end], fold.room)
+}
+
+// Builds the circle of the word at the start of `part`, as far as it is not there. Answers the reduced word's letters.
+fn circle(fold: &mut Fold<'_>, part: &[u8]) -> usize
+    requires takeable { Takeable fold.old.room part.now fold.old.table.now fold.old.work.now }
+    requires settled { fold.old.pending ≡ 0 }
+    ensures held { Held fold.old fold.new }
+    ensures circle { CircleOf fold.old.room part.now fold.old.table.now fold.old.work.now fold.new.room.made fold.new.pending result fold.new.table.now fold.new.work.now }
+{
+    let at = 2 * fold.room.rows;
+    let word = words::reduce(part, &mut fold.work[at..]);
     let end = at + word.left;
-    let front = read_front(table, &work[at..end], room);
+    let front = front_of(fold, at, end);
     let first = front.count;
-    let back = read_back(table, &work[at + first..end], room);
-    let grown = chain(
-        table,
-        work,
-        room,
-        front.point,
-        back.point,
-        first,
-        first + back.count,
-    );
-    Circled {
-        grown,
-        left: word.left,
-    }
+    let back = back_of(fold, at + first, end);
+    chain(fold, front.point, back.point, first, first + back.count);
+    word.left
 }
 
-// Takes the word at the start of `part` in, with nothing pending before and after.
-pub fn take_in(table: &mut [u32], work: &mut [u32], room: Room, part: &[u8]) -> Taken
-    requires { Takeable room part.now table.old work.old }
-    ensures taken { TakenIn room part.now table.old work.old result table.new work.new }
+// Takes the word at the start of `part` in, with nothing pending before and after. Answers the reduced word's letters.
+pub fn take_in(fold: &mut Fold<'_>, part: &[u8]) -> usize
+    requires takeable { Takeable fold.old.room part.now fold.old.table.now fold.old.work.now }
+    requires settled { fold.old.pending ≡ 0 }
+    ensures held { Held fold.old fold.new }
+    ensures settles { fold.new.pending ≡ 0 }
+    ensures taken { TakenIn fold.old.room part.now fold.old.table.now fold.old.work.now fold.new.room.made result fold.new.table.now fold.new.work.now }
 {
-    let circled = circle(table, work, room, part);
-    let made = circled.grown.made;
-    drains::drain(table, work, Room { made, ..room }, circled.grown.count);
-    Taken {
-        made,
-        left: circled.left,
-    }
+    let left = circle(fold, part);
+    drains::drain(fold);
+    left
 }
