@@ -21,7 +21,6 @@ use Rattle.rooms.proofs.RoomLaws.{all_words, plain_stage}
 use Rattle.lists.specs.Counts.{next_start}
 use Rattle.lists.proofs.CountTurn.{rest_of}
 use Rattle.lists.proofs.StartTurn.{words_next, next_in}
-use Rattle.takes.specs.declared.Taken.{Taken}
 use Rattle.takes.specs.Takes.{taken_cells, Takeable, TakenIn}
 use Rattle.takes.proofs.TakeTurn.{taken_points, taken_fit, taken_rest, taken_long}
 use Rattle.folds.specs.Rows.{Prepared, all_in, folded_cells, WordsIn}
@@ -122,35 +121,35 @@ module _ {r : Room} {list table₀ work₀ : List ℕ} {made points edges at : �
     pub head_asks : Takeable (with_made r made) (take (length list - at) (drop at list)) table work
     head_asks = subst (λ t. Takeable (with_made r made) t table work) (sym (rest_of list at)) takeable
 
-    module _ {g : Taken} {table' work' : List ℕ} (t : TakenIn (with_made r made) (take (length list - at) (drop at list)) table work g table' work') where
-      taken : TakenIn (with_made r made) d table work g table' work'
-      taken = subst (λ p. TakenIn (with_made r made) p table work g table' work') (rest_of list at) t
+    module _ {made' left : ℕ} {table' work' : List ℕ} (t : TakenIn (with_made r made) (take (length list - at) (drop at list)) table work made' left table' work') where
+      taken : TakenIn (with_made r made) d table work made' left table' work'
+      taken = subst (λ p. TakenIn (with_made r made) p table work made' left table' work') (rest_of list at) t
 
-      pub head_turn : {m e : ℕ} → m ≡ g.left - 1 → e ≡ next_start list at
-          → Head r list table₀ work₀ g.made (points + m) (edges + g.left) e table' work'
-      head_turn {m} {e} fresh q = subst (λ j. Head r list table₀ work₀ g.made (points + m) (edges + g.left) j table' work') (sym q) turned
+      pub head_turn : {m e : ℕ} → m ≡ left - 1 → e ≡ next_start list at
+          → Head r list table₀ work₀ made' (points + m) (edges + left) e table' work'
+      head_turn {m} {e} fresh q = subst (λ j. Head r list table₀ work₀ made' (points + m) (edges + left) j table' work') (sym q) turned
         where
           after : State
           after = drained (usual r.n) (taken_in (state_in (with_made r made) table work 0) (reduced (first_word d)))
 
-          ahead : folded (usual r.n) (state_in (with_made r g.made) table' work' 0) (words_of (drop next list)) ≡ folded (usual r.n) start (words_of list)
+          ahead : folded (usual r.n) (state_in (with_made r made') table' work' 0) (words_of (drop next list)) ≡ folded (usual r.n) start (words_of list)
           ahead =
-              ap (λ s. folded (usual r.n) s (words_of (drop next list))) taken.left.state
+              ap (λ s. folded (usual r.n) s (words_of (drop next list))) taken.leaves.state
               ∙ folded_more (usual r.n) (state_in (with_made r made) table work 0) (first_word d) (words_of (drop next list))
               ∙ ap (folded (usual r.n) (state_in (with_made r made) table work 0)) (sym walk)
               ∙ h.ends
 
           cells_ahead
-              : folded_cells r.rows (usual r.n) (state_in (with_made r g.made) table' work' 0) work' (words_of (drop next list))
+              : folded_cells r.rows (usual r.n) (state_in (with_made r made') table' work' 0) work' (words_of (drop next list))
               ≡ folded_cells r.rows (usual r.n) start work₀ (words_of list)
           cells_ahead =
-              ap (λ s. folded_cells r.rows (usual r.n) s work' (words_of (drop next list))) taken.left.state
-              ∙ ap (λ w. folded_cells r.rows (usual r.n) after w (words_of (drop next list))) taken.left.cells
+              ap (λ s. folded_cells r.rows (usual r.n) s work' (words_of (drop next list))) taken.leaves.state
+              ∙ ap (λ w. folded_cells r.rows (usual r.n) after w (words_of (drop next list))) taken.leaves.cells
               ∙ cells_more r.rows (usual r.n) (state_in (with_made r made) table work 0) work (first_word d) (words_of (drop next list))
               ∙ ap (folded_cells r.rows (usual r.n) (state_in (with_made r made) table work 0) work) (sym walk)
               ∙ h.cells
 
-          turned : Head r list table₀ work₀ g.made (points + m) (edges + g.left) next table' work'
+          turned : Head r list table₀ work₀ made' (points + m) (edges + left) next table' work'
           turned =
               record {
                 prepared = h.prepared;
@@ -162,14 +161,14 @@ module _ {r : Room} {list table₀ work₀ : List ℕ} {made points edges at : �
                 edged = omega (arith, h.edged, longer, taken.letters);
                 ends = ahead;
                 cells = cells_ahead;
-                table_same = taken.left.table_same ∙ h.table_same;
-                table_rest = taken.left.table_rest ∙ h.table_rest;
+                table_same = taken.leaves.table_same ∙ h.table_same;
+                table_rest = taken.leaves.table_rest ∙ h.table_rest;
                 work_same = taken_long takeable taken ∙ h.work_same;
                 work_rest = taken_rest takeable taken ∙ h.work_rest;
               }
 
       -- the counts stay small
-      pub head_small : {m : ℕ} → m ≡ g.left - 1 → (points + m ≤ 1048578) × (edges + g.left ≤ 1048576)
+      pub head_small : {m : ℕ} → m ≡ left - 1 → (points + m ≤ 1048578) × (edges + left ≤ 1048576)
       head_small fresh =
           let l = list_short r.n list h.prepared.fine in (
             omega (arith, h.pointed, more, taken.letters, fresh, some_point (words_of (drop next list)), list_points list, l),

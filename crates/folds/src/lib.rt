@@ -4,14 +4,15 @@
 ghost use Rattle.std.specs.Prelude.{◌≡◌, ◌*◌, ◌≤◌, ltb};
 ghost use Rattle.theory.specs.Refusals.{point_limit, refused_if};
 ghost use Rattle.refusals.specs.Given.{unless};
+ghost use Rattle.rooms.specs.Rooms.{Held};
 ghost use Rattle.folds.specs.Folds.{Done, FoldOutcome};
 ghost use Rattle.folds.specs.Rows.{Prepared, WordsIn, Foldable, Built};
 
 use cells::ABSENT;
 use lists::StartSize;
 use refusals::{Cause, Refusal, refuse};
-use rooms::Room;
-use tables::{Figures, Subgroup};
+use rooms::{Fold, Room};
+use tables::{Figures, Table};
 
 // The figures of a fold: points, edges with rank and index, the start graph's size, and the folds of each kind.
 #[derive(Clone, Copy, Debug, PartialEq, Eq)]
@@ -31,24 +32,37 @@ pub struct BuildSize {
 }
 
 // Takes every word of the list in, each as the part of the list where it starts. Answers the size of the start graph.
-fn take_words(table: &mut [u32], work: &mut [u32], room: Room, list: &[u8]) -> StartSize
-    requires { Prepared room list.now table.old work.old }
-    ensures words { WordsIn room list.now table.old work.old result table.new work.new }
+fn take_words(fold: &mut Fold<'_>, list: &[u8]) -> StartSize
+    requires prepared { Prepared fold.old.room list.now fold.old.table.now fold.old.work.now }
+    requires settled { fold.old.pending ≡ 0 }
+    ensures held { Held fold.old fold.new }
+    ensures words { WordsIn fold.old.room list.now fold.old.table.now fold.old.work.now result fold.new.table.now fold.new.work.now }
 {
-    let n = room.n;
-    let rows = room.rows;
-    let mut made = room.made;
     let mut points: usize = 1;
     let mut edges: usize = 0;
     let mut at: usize = 0;
+    // From word to word, each handed on where it starts: no index is counted, and no slice iterator says `next_start`.
     while at < list.len() {
-        let taken = takes::take_in(table, work, Room { n, rows, made }, &list[at..]);
-        made = taken.made;
-        points += lists::new_points(taken.left);
-        edges += taken.left;
+        let left = takes::take_in(fold, &list[at..]);
+        points += lists::new_points(left);
+        edges += left;
         at = lists::next_start(list, at);
     }
     StartSize { points, edges }
+}
+
+// So in lent cells with nothing pending.
+fn take_list(table: &mut [u32], work: &mut [u32], room: Room, list: &[u8]) -> StartSize
+    requires { Prepared room list.now table.old work.old }
+    ensures words { WordsIn room list.now table.old work.old result table.new work.new }
+{
+    let mut fold = Fold {
+        table,
+        work,
+        room,
+        pending: 0,
+    };
+    take_words(&mut fold, list)
 }
 
 // Builds the table of a list in a room of L + 1 rows. The work cells are 0 afterwards.
@@ -60,7 +74,7 @@ pub fn build(n: usize, list: &[u8], table: &mut [u32], work: &mut [u32]) -> Buil
     let rows = letters + 1;
     cells::fill(table, rows * (2 * n), ABSENT);
     cells::fill(work, 1, 0);
-    let start = take_words(table, work, Room { n, rows, made: 1 }, list);
+    let start = take_list(table, work, Room { n, rows, made: 1 }, list);
     let points = numbering::number(table, n, rows);
     cells::fill(work, 8 * rows, 0);
     BuildSize { points, start }
@@ -89,7 +103,8 @@ fn fold_lent(
 {
     let BuildSize { points, start } = build(n as usize, list, table, work);
     let points = points as u64;
-    let counts = tables::check(Subgroup { n, points }, table)?;
+    let cells = &*table;
+    let counts = Table { n, points, cells }.check()?;
     Ok(FoldFigures {
         points,
         counts,
