@@ -8,7 +8,7 @@ ghost use Rattle.asks.specs.Causes.{texts_refusal};
 ghost use Rattle.asks.specs.Asks.{Askable, AskOutcome};
 
 use refusals::{Cause, Refusal};
-use tables::Subgroup;
+use tables::Table;
 
 // Where a cause stands in the order: by number, 3 and 4 as one.
 fn place_in_order(cause: Cause) -> u64
@@ -46,7 +46,8 @@ fn ask_lent(
     ensures outcome { AskOutcome n list.now query.now table.old work.old result table.new work.new }
 {
     let points = folds::build(n as usize, list, table, work).points as u64;
-    members::member(Subgroup { n, points }, table, query, work)
+    let cells = &*table;
+    members::member(&Table { n, points, cells }, query, work)
 }
 
 // Says whether a query is a member of the subgroup of a list of words over n generators, and leaves the list's table, or refuses:

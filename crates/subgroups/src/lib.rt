@@ -9,7 +9,7 @@ use folds::FoldFigures;
 use lists::{TextSize, Which};
 use loads::Loaded;
 use refusals::Refusal;
-use tables::{Figures, Subgroup};
+use tables::{Figures, Table};
 
 // What folding answers: a refusal (number 0 if there is none), or the figures of the table. What does not apply is 0.
 #[repr(C)]
@@ -119,7 +119,16 @@ pub extern "C" fn subgroups_member(
 ) -> YesReply
     ensures outcome { MemberReplied n points table.now query.now work.old result work.new }
 {
-    members::member(Subgroup { n, points }, table, query, work).into()
+    members::member(
+        &Table {
+            n,
+            points,
+            cells: table,
+        },
+        query,
+        work,
+    )
+    .into()
 }
 
 // Says whether two lent tables are equal, or refuses.
@@ -134,12 +143,17 @@ pub extern "C" fn subgroups_equal(
 ) -> YesReply
     ensures outcome { EqualReplied n points table.now other_n other_points other.now result }
 {
-    let first = Subgroup { n, points };
-    let second = Subgroup {
+    let first = Table {
+        n,
+        points,
+        cells: table,
+    };
+    let second = Table {
         n: other_n,
         points: other_points,
+        cells: other,
     };
-    equals::equal(first, table, second, other).into()
+    equals::equal(&first, &second).into()
 }
 
 // Says whether the subgroup of a lent table is normal, or refuses.
@@ -147,7 +161,15 @@ pub extern "C" fn subgroups_equal(
 pub extern "C" fn subgroups_normal(n: u64, points: u64, table: &[u32], work: &mut [u32]) -> YesReply
     ensures outcome { NormalReplied n points table.now work.old result work.new }
 {
-    normals::normal(Subgroup { n, points }, table, work).into()
+    normals::normal(
+        &Table {
+            n,
+            points,
+            cells: table,
+        },
+        work,
+    )
+    .into()
 }
 
 // What expressing answers: a refusal (number 0 if there is none), or 1 for a member and how many numbers were written, or 0.
@@ -191,7 +213,17 @@ pub extern "C" fn subgroups_express(
 ) -> ExpressReply
     ensures outcome { ExpressReplied n points table.now query.now work.old out.old result work.new out.new }
 {
-    expressions::express(Subgroup { n, points }, table, query, work, out).into()
+    expressions::express(
+        &Table {
+            n,
+            points,
+            cells: table,
+        },
+        query,
+        work,
+        out,
+    )
+    .into()
 }
 
 // What checking a table answers: a refusal (number 0 if there is none), or its counts. What does not apply is 0.
@@ -232,7 +264,13 @@ impl From<Result<Figures, Refusal>> for CheckReply {
 pub extern "C" fn subgroups_check(n: u64, points: u64, table: &[u32]) -> CheckReply
     ensures outcome { CheckReplied n points table.now result }
 {
-    tables::check(Subgroup { n, points }, table).into()
+    Table {
+        n,
+        points,
+        cells: table,
+    }
+    .check()
+    .into()
 }
 
 // What writing answers: a refusal (number 0 if there is none), or how many words (0 where words are not told) and bytes.
@@ -283,7 +321,16 @@ pub extern "C" fn subgroups_basis(
 ) -> WrittenReply
     ensures outcome { BasisReplied n points table.now work.old out.old result work.new out.new }
 {
-    bases::basis(Subgroup { n, points }, table, work, out).into()
+    bases::basis(
+        &Table {
+            n,
+            points,
+            cells: table,
+        },
+        work,
+        out,
+    )
+    .into()
 }
 
 // Saves a lent table as a file of kind 1, or refuses.
@@ -296,7 +343,15 @@ pub extern "C" fn subgroups_save_table(
 ) -> WrittenReply
     ensures outcome { SaveTableReplied n points table.now out.old result out.new }
 {
-    saves::save_table(Subgroup { n, points }, table, out).into()
+    saves::save_table(
+        &Table {
+            n,
+            points,
+            cells: table,
+        },
+        out,
+    )
+    .into()
 }
 
 // Saves a list as a file of kind 2, or refuses.
