@@ -12,7 +12,7 @@ use prints::Output;
 use refusals::Refusal;
 use std::io;
 
-// Writes the index of a subgroup, with a space before it.
+// Writes the index of a subgroup, with a space before it. Not the printing program's: each has its own bytes.
 fn print_index(out: &mut Output, index: Option<u64>) {
     match index {
         Some(k) => prints::next(out, k),

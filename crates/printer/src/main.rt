@@ -11,7 +11,7 @@ use inputs::InputError;
 use prints::Output;
 use refusals::Refusal;
 use std::io;
-use tables::{Figures, Subgroup};
+use tables::{Figures, Table};
 
 // Writes a line of a name and a number.
 fn print_figure(out: &mut Output, name: &[u8], x: u64) {
@@ -20,7 +20,7 @@ fn print_figure(out: &mut Output, name: &[u8], x: u64) {
     prints::text(out, b"\n");
 }
 
-// Writes the line of the index.
+// Writes the line of the index. Not `fold_cases`': each program has its own bytes.
 fn print_index(out: &mut Output, index: Option<u64>) {
     match index {
         Some(k) => print_figure(out, b"index", k),
@@ -65,6 +65,7 @@ fn print_word(out: &mut Output, word: &[u8]) {
 // Writes a line for each word of a basis.
 fn print_words(out: &mut Output, text: &[u8]) {
     let mut at: usize = 0;
+    // From line to line: no index is counted.
     while at < text.len() {
         let next = lists::next_start(text, at);
         print_word(out, &text[at..next]);
@@ -73,10 +74,10 @@ fn print_words(out: &mut Output, text: &[u8]) {
 }
 
 // Writes the lines of the basis, or its refusal in place of them.
-fn print_basis(out: &mut Output, s: Subgroup, table: &[u32], work: &mut [u32], basis: &mut [u8])
-    ensures run { BasisRun s.n s.points table.now work.old basis.old work.new basis.new }
+fn print_basis(out: &mut Output, t: &Table, work: &mut [u32], basis: &mut [u8])
+    ensures run { BasisRun t.now.n t.now.points t.now.cells.now work.old basis.old work.new basis.new }
 {
-    match bases::basis(s, table, work, basis) {
+    match bases::basis(t, work, basis) {
         Ok(size) => {
             let bytes = size.bytes as usize;
             print_words(out, &basis[..bytes]);
@@ -107,17 +108,10 @@ fn print_inside(out: &mut Output, query: &[u8], numbers: &[i32]) {
 }
 
 // Writes the line of a query, or its refusal in place of it.
-fn print_query(
-    out: &mut Output,
-    s: Subgroup,
-    table: &[u32],
-    query: &[u8],
-    work: &mut [u32],
-    expression: &mut [i32],
-)
-    ensures cells { lent work.new expression.new ≡ after_query s.n s.points table.now query.now (lent work.old expression.old) }
+fn print_query(out: &mut Output, t: &Table, query: &[u8], work: &mut [u32], expression: &mut [i32])
+    ensures cells { lent work.new expression.new ≡ after_query t.now.n t.now.points t.now.cells.now query.now (lent work.old expression.old) }
 {
-    match expressions::express(s, table, query, work, expression) {
+    match expressions::express(t, query, work, expression) {
         Ok(Some(count)) => {
             let size = count as usize;
             print_inside(out, query, &expression[..size]);
@@ -130,19 +124,18 @@ fn print_query(
 // Writes the lines of the queries that stand in the input from `from` on.
 fn print_queries(
     out: &mut Output,
-    s: Subgroup,
-    table: &[u32],
+    t: &Table,
     input: &[u8],
     from: usize,
     work: &mut [u32],
     expression: &mut [i32],
 )
-    ensures cells { lent work.new expression.new ≡ after_queries s.n s.points table.now (walked_from (length input.now) input.now from) (lent work.old expression.old) }
+    ensures cells { lent work.new expression.new ≡ after_queries t.now.n t.now.points t.now.cells.now (walked_from (length input.now) input.now from) (lent work.old expression.old) }
 {
     let mut at = from;
     while let Some(query) = inputs::query_at(input, at) {
         let end = query.start + query.size;
-        print_query(out, s, table, &input[query.start..end], work, expression);
+        print_query(out, t, &input[query.start..end], work, expression);
         at = query.next;
     }
 }
@@ -166,12 +159,16 @@ fn print_list(
         Err(r) => prints::refused(out, r),
         Ok(f) => {
             let points = f.points;
-            let s = Subgroup { n, points };
+            let t = Table {
+                n,
+                points,
+                cells: &*table,
+            };
             print_counts(out, points, f.counts);
-            print_normal(out, normals::normal(s, table, work));
+            print_normal(out, normals::normal(&t, work));
             print_folds(out, f);
-            print_basis(out, s, table, work, basis);
-            print_queries(out, s, table, input, queries, work, expression);
+            print_basis(out, &t, work, basis);
+            print_queries(out, &t, input, queries, work, expression);
         }
     }
 }

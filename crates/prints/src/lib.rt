@@ -33,7 +33,7 @@ pub fn text(out: &mut Output, s: &[u8]) {
     }
 }
 
-// Writes a number in decimal.
+// Writes a number in decimal: by `decimals`, whose contract says which bytes these are, not by `Display`.
 pub fn number(out: &mut Output, x: u64) {
     let mut digits = [0u8; 20];
     let size = decimals::write_decimal(x, &mut digits);

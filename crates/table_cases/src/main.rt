@@ -9,7 +9,7 @@ ghost use Rattle.table_cases.specs.Cases.{case_of, rest_of, asked_cells, CaseRun
 
 use prints::Output;
 use std::io;
-use tables::{Figures, Subgroup};
+use tables::{Figures, Table};
 
 // Writes the counts of a table.
 fn print_figures(out: &mut Output, f: Figures) {
@@ -23,18 +23,18 @@ fn print_figures(out: &mut Output, f: Figures) {
 }
 
 // A table is checked.
-fn run_check(out: &mut Output, s: Subgroup, table: &[u32]) {
-    match tables::check(s, table) {
+fn run_check(out: &mut Output, t: &Table) {
+    match t.check() {
         Ok(f) => print_figures(out, f),
         Err(r) => prints::refusal(out, r),
     }
 }
 
 // A query is asked of a table; the work cells follow.
-fn run_member(out: &mut Output, s: Subgroup, table: &[u32], query: &[u8], work: &mut [u32])
-    ensures cells { work.new ≡ cells_after s.n s.points table.now query.now work.old }
+fn run_member(out: &mut Output, t: &Table, query: &[u8], work: &mut [u32])
+    ensures cells { work.new ≡ cells_after t.now.n t.now.points t.now.cells.now query.now work.old }
 {
-    match members::member(s, table, query, work) {
+    match members::member(t, query, work) {
         Ok(true) => prints::text(out, b"inside"),
         Ok(false) => prints::text(out, b"outside"),
         Err(r) => prints::refusal(out, r),
@@ -44,22 +44,24 @@ fn run_member(out: &mut Output, s: Subgroup, table: &[u32], query: &[u8], work: 
 }
 
 // Two tables are compared.
-fn run_equal(out: &mut Output, a: Subgroup, first: &[u32], b: Subgroup, second: &[u32]) {
-    match equals::equal(a, first, b, second) {
+fn run_equal(out: &mut Output, a: &Table, b: &Table) {
+    match equals::equal(a, b) {
         Ok(true) => prints::text(out, b"equal"),
         Ok(false) => prints::text(out, b"different"),
         Err(r) => prints::refusal(out, r),
     }
 }
 
-// The numbers of a case.
+// The numbers of a case: what is asked, those of its table and of its second table, and how many work cells it has.
 #[derive(Drop)]
 struct Case {
     op: u8,
-    a: Subgroup,
-    b: Subgroup,
+    n: u64,
+    points: u64,
     count: usize,
-    other: usize,
+    second_n: u64,
+    second_points: u64,
+    second_count: usize,
     size: usize,
 }
 
@@ -67,11 +69,23 @@ struct Case {
 fn ask(out: &mut Output, c: Case, first: &[u32], second: &[u32], query: &[u8], work: &mut [u32])
     ensures asked { work.new ≡ asked_cells c first.now query.now work.old }
 {
-    let op = c.op;
-    match op {
-        1 => run_check(out, c.a, first),
-        2 => run_member(out, c.a, first, query, work),
-        _ => run_equal(out, c.a, first, c.b, second),
+    let table = Table {
+        n: c.n,
+        points: c.points,
+        cells: first,
+    };
+    // A stored case's byte, told apart here alone.
+    match c.op {
+        1 => run_check(out, &table),
+        2 => run_member(out, &table, query, work),
+        _ => {
+            let other = Table {
+                n: c.second_n,
+                points: c.second_points,
+                cells: second,
+            };
+            run_equal(out, &table, &other)
+        }
     }
 }
 
@@ -87,18 +101,18 @@ fn run_case(
     ensures run { CaseRun c body.now first.old second.old work.old first.new second.new work.new }
 {
     let count = c.count;
-    let other = c.other;
+    let second_count = c.second_count;
     let size = c.size;
     if first.len() < count {
         return;
     }
-    if second.len() < other {
+    if second.len() < second_count {
         return;
     }
     if work.len() < size {
         return;
     }
-    let end = count + other;
+    let end = count + second_count;
     if body.len() < end {
         return;
     }
@@ -109,7 +123,7 @@ fn run_case(
         out,
         c,
         &first[..count],
-        &second[..other],
+        &second[..second_count],
         &body[end..],
         &mut work[..size],
     );
@@ -123,16 +137,12 @@ fn case_of(head: &[u8]) -> Case
 {
     Case {
         op: head[0],
-        a: Subgroup {
-            n: case_codes::number(head[1]),
-            points: case_codes::number(head[2]),
-        },
-        b: Subgroup {
-            n: case_codes::number(head[4]),
-            points: case_codes::number(head[5]),
-        },
+        n: case_codes::number(head[1]),
+        points: case_codes::number(head[2]),
         count: case_codes::size(head[3]),
-        other: case_codes::size(head[6]),
+        second_n: case_codes::number(head[4]),
+        second_points: case_codes::number(head[5]),
+        second_count: case_codes::size(head[6]),
         size: case_codes::size(head[8]),
     }
 }

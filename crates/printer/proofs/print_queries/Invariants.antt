@@ -6,7 +6,7 @@ use Rattle.printer.proofs.LentLaws.{Queried}
 use Rattle.printer.proofs.print_queries.Given as goal
 
 abbrev pub invariant-loop-query : goal.invariant-loop-query
-invariant-loop-query l = Queried l.s.n l.s.points l.table l.input l.from (lent l.initial.work l.initial.expression) (lent l.work l.expression) l.at
+invariant-loop-query l = Queried l.t.n l.t.points l.t.cells.now l.input l.from (lent l.initial.work l.initial.expression) (lent l.work l.expression) l.at
 
 abbrev pub decreases-loop-query : goal.decreases-loop-query
 decreases-loop-query l = length l.input - l.at
