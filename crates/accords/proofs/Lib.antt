@@ -9,3 +9,4 @@ pub mod CellsBack
 pub mod HeadsBack
 pub mod SavedFiles
 pub mod FilesBack
+pub mod RefusedFirst
