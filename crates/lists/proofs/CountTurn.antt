@@ -1,23 +1,18 @@
 -- The counts, the walk and the shorter list on plain values.
 -- Assumes nothing.
 use mathlib.Core.Path.{◌≡◌, refl, sym, ◌∙◌, ap, subst}
-use mathlib.Core.Bool.{Bool, true, false, not, cond}
+use mathlib.Core.Bool.{Bool, true, false, cond}
 use mathlib.Core.List.{List, []}
 use Prim.Native.Nat.{ℕ, ◌+◌, ◌-◌, ◌≤◌, ◌<◌}
-use native.Mathlib.Numerals.{one-add}
+use native.Mathlib.Numerals.{add-one}
 use native.Mathlib.Omega.{arith}
-use lib.Dec.{eqb}
-use lib.ListN.{length, take, drop, length-drop}
+use lib.ListN.{length, get_or, take, drop, length-drop}
 use lib.Seq.{take_all}
 use borrow.Author.Tests.{le-leb, lt-leb}
 use denote.Ref.{Bor}
-use Rattle.std.specs.List.{filter, count_by}
-use Rattle.std.proofs.lemmas.List.Recursion.{is_count_by}
-use Rattle.std.proofs.lemmas.List.Sums.{length-filter}
-use Rattle.theory.proofs.WordLaws.{by_test}
 use Rattle.theory.specs.Letters.{line_end, letters_in, word_length}
 use Rattle.theory.specs.Refusals.{is_unended}
-use Rattle.theory.proofs.TextLaws.{letters_le, words_count, word_length_le}
+use Rattle.theory.proofs.TextLaws.{letters_pass, letters_stop, letters_end, letters_le, words_count, word_length_le}
 use Rattle.lists.specs.Counts.{CountsOf, next_start}
 use Rattle.lists.specs.Shorter.{is_good, which_of, Hands, HandedBack}
 use Rattle.lists.specs.declared.Which.{Which}
@@ -25,15 +20,25 @@ use Rattle.lists.specs.declared.Which.TheVariants.{First, Second, Neither}
 
 -- ── Letters ──
 
--- the letters are the bytes that are no line end
-letters_count : (text : List ℕ) → letters_in text ≡ count_by (λ b. not (eqb b line_end)) text
-unfolding letters_in
-letters_count =
-    is_count_by letters_in (λ b. not (eqb b line_end)) refl
-    (λ b bs. by_test (eqb b line_end) (λ t. rw t) (λ t. rw t (sym (one-add (letters_in bs)))))
+-- of i bytes `found` are letters
+pub record Head (text : List ℕ) (found i : ℕ) : Type 0 where
+  pub low : found ≤ i
+  pub counted : found + letters_in (drop i text) ≡ letters_in text
 
-pub letters_kept : (text : List ℕ) → length (filter (λ b. not (eqb b line_end)) text) ≡ letters_in text
-letters_kept text = length-filter (λ b. not (eqb b line_end)) text ∙ sym (letters_count text)
+module _ {text : List ℕ} where
+  pub head_first : Head text 0 0
+  head_first = record { low = omega arith; counted = omega arith }
+
+  pub head_letter : {found i : ℕ} → Head text found i → i < length text → (get_or text i 0 ≡ line_end → ⊥) → Head text (found + 1) (i + 1)
+  head_letter {found} {i} h l e =
+      record { low = omega (arith, h.low); counted = rw (add-one i) (omega (arith, h.counted, letters_pass text i l e)) }
+
+  pub head_line_end : {found i : ℕ} → Head text found i → i < length text → get_or text i 0 ≡ line_end → Head text found (i + 1)
+  head_line_end {found} {i} h l e =
+      record { low = omega (arith, h.low); counted = rw (add-one i) (omega (arith, h.counted, letters_stop text i l e)) }
+
+  pub head_done : {found i : ℕ} → Head text found i → length text ≤ i → found ≡ letters_in text
+  head_done {found} {i} h l = omega (arith, h.counted, letters_end text i l)
 
 -- ── Words ──
 

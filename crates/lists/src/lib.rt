@@ -91,7 +91,13 @@ pub fn scan(n: u64, text: &[u8], lines: bool) -> Result<(), Refusal>
 pub fn letters_in(text: &[u8]) -> usize
     ensures letters { result ≡ letters_in text.now }
 {
-    text.iter().filter(|&&b| b != b'\n').count()
+    let mut found: usize = 0;
+    for &b in text {
+        if b != b'\n' {
+            found += 1;
+        }
+    }
+    found
 }
 
 // The letters and the words of a list. What is no letter is a line end, and each ends a word.

@@ -1,19 +1,25 @@
 -- The steps of the walk on plain values: the cells of a row, and a cell that breaks no rule.
 --   or_false    : for tests of several parts
---   row_counted : a row is thin if fewer than two cells of its part of the table are not absent
+--   present_le, present_first, present_there, present_absent, present_done : the cells of a row that are present, counted one after the other
+--   row_counted : a row is thin if fewer than two cells of its part of the table are present
 --   next_cell   : a cell that breaks no rule leads nowhere or to at most the next point
 -- Assumes nothing.
 use mathlib.Core.Path.{◌≡◌, refl, sym, ◌∙◌, ap}
 use mathlib.Core.Bool.{Bool, true, false, not, ◌||◌}
-use mathlib.Core.List.{List, [], ◌∷◌}
+use mathlib.Core.List.{List, []}
 use Prim.Native.Nat.{ℕ, suc, ◌+◌, ◌-◌, ◌*◌, ◌≤◌, ◌<◌}
+use native.Mathlib.Numerals.{one-add}
 use native.Mathlib.Omega.{arith}
 use lib.Dec.{eqb, ltb}
 use lib.ListN.{length, get_or, take, drop, length-take}
+use lib.Seq.{take_all}
+use borrow.Author.Tests.{eq-eqb, ne_eqb}
 use Rattle.std.proofs.Common.{length-drop}
 use Rattle.std.proofs.lemmas.List.{ext_get_or, get_or-take, get_or-drop}
 use Rattle.std.proofs.lemmas.Grind.{common_steps}
-use Rattle.std.specs.List.{filter}
+use Rattle.std.specs.List.{count_by}
+use Rattle.std.proofs.lemmas.List.Recursion.{is_count_by}
+use Rattle.std.proofs.lemmas.List.Sums.{count_by-le-length, count_by_more_yes, count_by_more_no}
 use Rattle.theory.specs.Letters.{usual}
 use Rattle.theory.specs.Tables.{absent, Cells, cell}
 use Rattle.theory.specs.Canonical.{row_of, present, breaks_cell}
@@ -27,6 +33,46 @@ use Rattle.tables.proofs.LentLaws.{row_in}
 pub or_false : (b : Bool) → (b || false) ≡ b
 or_false true = refl
 or_false false = refl
+
+-- ── The cells of a row that are present, counted one after the other ──
+
+-- they are those that are not absent
+counted : (l : List ℕ) → present l ≡ count_by (λ x. not (eqb x absent)) l
+unfolding present
+counted =
+    is_count_by present (λ x. not (eqb x absent)) refl
+    (λ x l. by_test (eqb x absent) (λ e. rw e) (λ e. rw e (sym (one-add (present l)))))
+
+pub present_le : (l : List ℕ) → present l ≤ length l
+present_le l = omega (arith, counted l, count_by-le-length (λ x. not (eqb x absent)) l)
+
+pub present_first : 0 ≡ present []
+unfolding present
+present_first = refl
+
+module _ (row : List ℕ) where
+  pub present_there : {found i : ℕ} → found ≡ present (take i row) → i < length row → (get_or row i 0 ≡ absent → ⊥) → found + 1 ≡ present (take (i + 1) row)
+  present_there {found} {i} e l m =
+      omega (
+        arith,
+        e,
+        counted (take i row),
+        counted (take (i + 1) row),
+        count_by_more_yes (λ x. not (eqb x absent)) row i 0 l (ap not (ne_eqb (get_or row i 0) absent m)),
+      )
+
+  pub present_absent : {found i : ℕ} → found ≡ present (take i row) → i < length row → get_or row i 0 ≡ absent → found ≡ present (take (i + 1) row)
+  present_absent {found} {i} e l m =
+      omega (
+        arith,
+        e,
+        counted (take i row),
+        counted (take (i + 1) row),
+        count_by_more_no (λ x. not (eqb x absent)) row i 0 l (ap not (eq-eqb (get_or row i 0) absent m)),
+      )
+
+  pub present_done : {found i : ℕ} → found ≡ present (take i row) → length row ≤ i → found ≡ present row
+  present_done {found} {i} e l = e ∙ ap present (take_all i row l)
 
 -- ── A thin row ──
 
@@ -55,20 +101,13 @@ module _ {n N : ℕ} {t : List ℕ} (L : IsLent n N t) {v : ℕ} (hv : v < N) wh
           ∙ cell_here n N t v y hv l L.cells
           ∙ sym (get_or_row (cell n N t) (usual n) v y (omega (arith, l, length_usual n)) ∙ ap (cell n N t v) (get_or_usual n y l))
 
-  -- the cells present are those that are not absent
-  count_present : (l : List ℕ) → length (filter (λ x. not (eqb x absent)) l) ≡ present l
-  unfolding present
-  count_present [] = refl
-  count_present (x ∷ l) = let r = count_present l in by_test (eqb x absent) (λ e. rw e r) (λ e. rw e (omega arith))
-
-  -- so a row with fewer than two of them is thin
+  -- so a row with fewer than two present cells in its part of the table is thin
   pub row_counted : {k : ℕ}
-      → k ≡ length (filter (λ x. not (eqb x absent)) (take (v * (2 * n) + 2 * n - v * (2 * n)) (drop (v * (2 * n)) t)))
+      → k ≡ present (take (v * (2 * n) + 2 * n - v * (2 * n)) (drop (v * (2 * n)) t))
       → ltb k 2 ≡ is_thin n N t v
-  row_counted {k} e =
+  row_counted e =
       let w : v * (2 * n) + 2 * n - v * (2 * n) ≡ 2 * n = omega arith in
-      let row = ap (λ m. take m (drop (v * (2 * n)) t)) w ∙ row_read in
-      ap (λ m. ltb m 2) (e ∙ ap (λ l. length (filter (λ x. not (eqb x absent)) l)) row ∙ count_present (row_of (cell n N t) (usual n) v))
+      ap (λ m. ltb m 2) (e ∙ ap present (ap (λ m. take m (drop (v * (2 * n)) t)) w ∙ row_read))
 
 -- ── A cell that breaks no rule ──
 

@@ -169,7 +169,13 @@ impl<'a> Lent<'a> {
     {
         let w = 2 * self.n as usize;
         let row = &self.cells[v * w..v * w + w];
-        row.iter().filter(|&&x| x != ABSENT).count() < 2
+        let mut found: usize = 0;
+        for &x in row {
+            if x != ABSENT {
+                found += 1;
+            }
+        }
+        found < 2
     }
 
     // Row v breaks a rule of rows: v was not met before, or the row is thin. The base's row breaks none.
