@@ -6,6 +6,7 @@ ghost use Rattle.std.proofs.Math.Option.{none};
 ghost use Rattle.theory.specs.Letters.{usual};
 ghost use Rattle.theory.specs.Tables.{absent, cell};
 ghost use Rattle.theory.specs.Canonical.{breaks_cell, faulty_cell};
+ghost use Rattle.theory.specs.Refusals.{point_limit};
 ghost use Rattle.theory.specs.TableRefusals.{is_lent, cell_refusal};
 ghost use Rattle.refusals.specs.Given.{unless};
 ghost use Rattle.tables.specs.Lent.{IsLent, lent_refusal, verdict};
@@ -93,6 +94,15 @@ fn index_of(points: u64, full: bool) -> Option<u64>
     if full { Some(points) } else { None }
 }
 
+// How many cells a table over n generators has, of so many points.
+pub fn cell_count(n: u64, points: u64) -> usize
+    requires { (n ≤ 26) × (points ≤ point_limit) }
+    ensures count { result ≡ points * (2 * n) }
+    ensures most { result ≤ 54526004 }
+{
+    points as usize * (2 * n as usize)
+}
+
 impl<'a> Table<'a> {
     // The points are 1 to 1,048,577 and the table has their cells.
     #[tactic(auto, unfolding(theory::specs::TableRefusals::is_lent))]
@@ -139,7 +149,7 @@ impl<'a> Lent<'a> {
         ensures count { result ≡ self.now.points * (2 * self.now.n) }
         ensures most { result ≤ 54526004 }
     {
-        self.points as usize * (2 * self.n as usize)
+        cell_count(self.n, self.points)
     }
 
     // Where the cell of letter y at point v stands.
