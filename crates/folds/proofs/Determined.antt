@@ -1,6 +1,7 @@
 -- The contracts of `fold`, and of its parts `take_words` and `build`, fix their outcome.
 --   table_determined : of one list one table is left
 --   words_determined, build_determined : two outcomes of `take_words`, and of `build`, that conform on one input are equal, answer and cells
+--   (how many points are made and pending, the clauses `made` and `settles` of `take_words` say as equations)
 --   fold_determined  : two outcomes that conform on one input are equal, answer and cells
 -- One subgroup has one table, the room behind its points is absent, and every complete folding has the same counts. Assumes nothing.
 use mathlib.Core.Path.{◌≡◌, refl, sym, ◌∙◌, ap, fun_ext}

@@ -175,25 +175,29 @@ module _ {r : Room} {list table₀ work₀ : List ℕ} {made points edges at : �
             omega (arith, h.edged, longer, taken.letters, reduced_length_written (words_of list), written_letters list, l),
           )
 
+  none_left : length list ≤ at → drop at list ≡ []
+  none_left l = drop_of_length-le list {i = at} l
+
+  whole : length list ≤ at → state_in (with_made r made) table work 0 ≡ all_in r list
+  unfolding folded words_of
+  whole l = sym (ap (λ t. folded (usual r.n) (state_in (with_made r made) table work 0) (words_of t)) (none_left l)) ∙ h.ends
+
+  pub head_made : length list ≤ at → made ≡ (all_in r list).made
+  head_made l = ap (λ s. s.made) (whole l)
+
   pub head_done : length list ≤ at → WordsIn r list table₀ work₀ (record { points = points; edges = edges }) table work
   unfolding folded folded_cells words_of start_points reduced_length start_graph
   head_done l =
       record {
         sizes =
             record {
-              points = omega (arith, h.pointed, ap (λ t. start_points (words_of t)) none, length-up_to (start_points (words_of list)));
-              edges = omega (arith, h.edged, ap (λ t. reduced_length (words_of t)) none, start_edges (words_of list));
+              points = omega (arith, h.pointed, ap (λ t. start_points (words_of t)) (none_left l), length-up_to (start_points (words_of list)));
+              edges = omega (arith, h.edged, ap (λ t. reduced_length (words_of t)) (none_left l), start_edges (words_of list));
             };
-        state = subst (λ m. state_in (with_made r m) table work 0 ≡ all_in r list) (ap (λ s. s.made) whole) whole;
-        cells = sym (ap (λ t. folded_cells r.rows (usual r.n) (state_in (with_made r made) table work 0) work (words_of t)) none) ∙ h.cells;
+        state = subst (λ m. state_in (with_made r m) table work 0 ≡ all_in r list) (head_made l) (whole l);
+        cells = sym (ap (λ t. folded_cells r.rows (usual r.n) (state_in (with_made r made) table work 0) work (words_of t)) (none_left l)) ∙ h.cells;
         table_same = h.table_same;
         table_rest = h.table_rest;
         work_same = h.work_same;
         work_rest = h.work_rest;
       }
-    where
-      none : drop at list ≡ []
-      none = drop_of_length-le list {i = at} l
-
-      whole : state_in (with_made r made) table work 0 ≡ all_in r list
-      whole = sym (ap (λ t. folded (usual r.n) (state_in (with_made r made) table work 0) (words_of t)) none) ∙ h.ends

@@ -6,7 +6,7 @@ ghost use Rattle.theory.specs.Refusals.{point_limit, refused_if};
 ghost use Rattle.refusals.specs.Given.{unless};
 ghost use Rattle.rooms.specs.Rooms.{Held};
 ghost use Rattle.folds.specs.Folds.{Done, FoldOutcome};
-ghost use Rattle.folds.specs.Rows.{Prepared, WordsIn, Foldable, Built};
+ghost use Rattle.folds.specs.Rows.{Prepared, all_in, WordsIn, Foldable, Built};
 
 use cells::ABSENT;
 use lists::StartSize;
@@ -36,6 +36,8 @@ fn take_words(fold: &mut Fold<'_>, list: &[u8]) -> StartSize
     requires prepared { Prepared fold.old.room list.now fold.old.table.now fold.old.work.now }
     requires settled { fold.old.pending ≡ 0 }
     ensures held { Held fold.old fold.new }
+    ensures settles { fold.new.pending ≡ 0 }
+    ensures made { fold.new.room.made ≡ (all_in fold.old.room list.now).made }
     ensures words { WordsIn fold.old.room list.now fold.old.table.now fold.old.work.now result fold.new.table.now fold.new.work.now }
 {
     let mut points: usize = 1;

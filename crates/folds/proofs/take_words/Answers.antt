@@ -1,4 +1,4 @@
-use Rattle.folds.proofs.WordsTurn.{head_first, head_asks, head_turn, head_small, head_done}
+use Rattle.folds.proofs.WordsTurn.{head_first, head_asks, head_turn, head_small, head_made, head_done}
 use Rattle.rooms.proofs.RoomLaws.{held_first, held_then}
 use Rattle.lists.proofs.CountTurn.{next_further}
 use native.Mathlib.Omega.{arith}
@@ -33,6 +33,12 @@ overflow_add-edges c =
 
 pub loop-at-smaller : goal.loop-at-smaller
 loop-at-smaller c = next_further _ _ _ c.loop-at-test.true c.next_start-at.ensures.next
+
+pub returns-clause-settles : goal.returns-clause-settles
+returns-clause-settles c = c.loop-at.invariant.1
+
+pub returns-clause-made : goal.returns-clause-made
+returns-clause-made c = head_made c.loop-at.invariant.2 c.loop-at-test.false
 
 pub returns-clause-words : goal.returns-clause-words
 returns-clause-words c = head_done c.loop-at.invariant.2 c.loop-at-test.false
