@@ -12,6 +12,7 @@ use lib.Seq.{drop-cons}
 use borrow.Author.Tests.{eqb-true, eq-eqb, lt-ltb, le-ltb}
 use Rattle.std.specs.Prelude.{⊤}
 use Rattle.std.specs.Result.{is_ok}
+use Rattle.std.specs.declared.option.Option.{Option as Maybe}
 use Rattle.std.specs.declared.option.Option.TheVariants.{None, Some}
 use Rattle.std.specs.declared.result.Result.{Result}
 use Rattle.std.specs.declared.result.Result.TheVariants.{Ok, Err}
@@ -39,6 +40,13 @@ answered o = unless o tt
 pub drawn_told : (n : ℕ) (lines : Bool) (b : ℕ) {r k : Class} → b < 256 → r ≡ class_of b → r ≡ k → drawn_as (drawn_by n lines k) ≡ drawn n lines b
 unfolding drawn
 drawn_told n lines b s e m = sym (ap drawn_as (told n lines b s e m).draws)
+
+-- what is said of an alphabet is said of the list's own
+pub over_own : (m n : ℕ) (lines : Bool) (b : ℕ) {r : Maybe Cause} → r ≡ drawn m lines b → m ≡ n → r ≡ drawn n lines b
+over_own m n lines b h e = h ∙ ap (λ k. drawn k lines b) e
+
+pub of_own : (m n : ℕ) {r : Result ⊤ Refusal} → r ≡ answered (refused_if (not (is_alphabet m)) 1 0) → m ≡ n → r ≡ answered (refused_if (not (is_alphabet n)) 1 0)
+of_own m n h e = h ∙ ap (λ k. answered (refused_if (not (is_alphabet k)) 1 0)) e
 
 drawn_none : (k : ℕ) → None ≡ drawn_as k → k ≡ 0
 drawn_none k e = by_test (eqb k 0) (λ t. eqb-true k 0 t) (λ t. absurd (let z : None ≡ Some (cause_of k) = e ∙ rw t in cc))
