@@ -1,6 +1,7 @@
 -- What the parts of `fold` say, on plain values.
 --   list_refused, rows_refused, work_refused : a refusal at a stage of `fold` is the answer
 --   rows_asks                                : a list that is fine has few rows
+--   as_much                                  : of as much work the same is said
 --   made_outcome, never_refused              : the outcome of `fold_lent`
 -- Assumes nothing.
 use mathlib.Core.Path.{◌≡◌, refl, sym, ◌∙◌, ap, subst}
@@ -44,6 +45,10 @@ use Rattle.folds.specs.Folds.{Done, OutcomeFor, FoldOutcome}
 use Rattle.folds.specs.Rows.{Foldable, Built}
 use Rattle.folds.proofs.BuildLaws.{rows_few}
 use Rattle.folds.proofs.CauseLaws.{fine_fold}
+
+-- what is said of so much work is said of as much
+pub as_much : (needed m k : ℕ) {x : Result ⊤ Refusal} → x ≡ unless_short Work needed m → m ≡ k → x ≡ unless_short Work needed k
+as_much needed m k h e = h ∙ ap (unless_short Work needed) e
 
 module _ (n : ℕ) (list table work : List ℕ) where
   -- the stages: the list, its rows, its work cells

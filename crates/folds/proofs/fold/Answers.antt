@@ -2,7 +2,7 @@
 -- Assumes nothing.
 use native.Mathlib.Omega.{arith}
 use Rattle.std.proofs.lemmas.Result.{err_from_is_err_and}
-use Rattle.folds.proofs.LentLaws.{list_refused, rows_asks, rows_refused, work_refused}
+use Rattle.folds.proofs.LentLaws.{list_refused, rows_asks, rows_refused, work_refused, as_much}
 use Rattle.folds.proofs.fold.Goals as goal
 
 pub returns-in_err-scan : goal.returns-in_err-scan
@@ -29,4 +29,7 @@ overflow_mul-rows c =
 pub returns-in_err-check_room : goal.returns-in_err-check_room
 returns-in_err-check_room c =
     let p = err_from_is_err_and c.from_residual-in_err-check_room.result c.from_residual-in_err-check_room.ensures.1 in
-    record { outcome = rw (p.1, p.2) (work_refused _ _ _ _ c.in_ok-scan.ensures.first c.letters_in-rows.ensures.letters c.in_ok-check_rows.ensures.checked c.in_err-check_room.ensures.checked) }
+    record {
+      outcome = rw (p.1, p.2) (work_refused _ _ _ _ c.in_ok-scan.ensures.first c.letters_in-rows.ensures.letters c.in_ok-check_rows.ensures.checked
+          (as_much _ _ _ c.in_err-check_room.ensures.checked (omega arith)));
+    }
