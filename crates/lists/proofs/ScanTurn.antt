@@ -41,11 +41,12 @@ pub drawn_told : (n : ℕ) (lines : Bool) (b : ℕ) {r k : Class} → b < 256 �
 unfolding drawn
 drawn_told n lines b s e m = sym (ap drawn_as (told n lines b s e m).draws)
 
--- what is said of an alphabet is said of the list's own
+-- what is said of a number of generators is said of the list's own, where that is the same number
 pub over_own : (m n : ℕ) (lines : Bool) (b : ℕ) {r : Maybe Cause} → r ≡ drawn m lines b → m ≡ n → r ≡ drawn n lines b
 over_own m n lines b h e = h ∙ ap (λ k. drawn k lines b) e
 
-pub of_own : (m n : ℕ) {r : Result ⊤ Refusal} → r ≡ answered (refused_if (not (is_alphabet m)) 1 0) → m ≡ n → r ≡ answered (refused_if (not (is_alphabet n)) 1 0)
+pub of_own : (m n : ℕ) {r : Result ⊤ Refusal}
+    → r ≡ answered (refused_if (not (is_alphabet m)) 1 0) → m ≡ n → r ≡ answered (refused_if (not (is_alphabet n)) 1 0)
 of_own m n h e = h ∙ ap (λ k. answered (refused_if (not (is_alphabet k)) 1 0)) e
 
 drawn_none : (k : ℕ) → None ≡ drawn_as k → k ≡ 0
